@@ -5,14 +5,14 @@ use Rattle.std.specs.Prelude.{IfOk, IfSome}
 use Rattle.std.specs.Io.KnownBytes.{Appends, Keeps}
 use Rattle.cops_types.specs.declared.selection.Selection.{Selection}
 use Rattle.cops_import.specs.Imports.{IsImport}
-use Rattle.cops_import.specs.Words.{told_text}
+use Rattle.cops_import.specs.Words.{reported_text}
 use Rattle.cops_stream.specs.declared.audit.Answer.{Answer}
 use Rattle.cops_stream.specs.declared.audit.Answer.TheVariants as answer
 use Rattle.cops_stream.specs.declared.audit.StreamFault.{StreamFault}
 use Rattle.cops_stream.specs.declared.explain.Explained.{Explained}
-use Rattle.cops_stream.specs.Convergent.{SpellsConvergent}
+use Rattle.cops_stream.specs.Convergent.{EncodesConvergent}
 use Rattle.cops_stream.specs.Explain.{PictureSays, WritesExplained}
-use Rattle.cops.specs.Status.{Draws, Explains, Gains, HasAnswered, Imports, TellsNoTrace}
+use Rattle.cops.specs.Status.{Draws, Explains, Gains, HasAnswered, Imports, ReportsNoTrace}
 
 kept_text : (old mid new : Option (List ℕ)) (bs : List ℕ) → Appends old mid bs → Keeps mid new → Appends old new bs
 kept_text None mid new bs gained kept = tt
@@ -22,7 +22,7 @@ kept_text (Some xs) (Some ys) (Some zs) bs gained kept = kept ∙ gained
 
 -- an import whose trace was flushed and whose report was printed
 pub imported : (known : Option (List ℕ)) (names : List (List ℕ)) (operations : ℕ) (made_old mid made_new old new : Option (List ℕ))
-    → IfSome known (λ bytes. IsImport bytes made_old mid names operations) → Keeps mid made_new → Appends old new (told_text names operations)
+    → IfSome known (λ bytes. IsImport bytes made_old mid names operations) → Keeps mid made_new → Appends old new (reported_text names operations)
     → IfSome known (λ bytes. Imports bytes made_old made_new old new)
 imported None names operations made_old mid made_new old new is_import kept printed = tt
 imported (Some bytes) names operations made_old mid made_new old new is_import kept printed = record {
@@ -30,7 +30,7 @@ imported (Some bytes) names operations made_old mid made_new old new is_import k
   operations = operations;
   is_import = record {
     tolds = is_import.tolds;
-    tell = is_import.tell;
+    report = is_import.report;
     names_are = is_import.names_are;
     counted = is_import.counted;
     is_trace = is_import.is_trace;
@@ -40,8 +40,8 @@ imported (Some bytes) names operations made_old mid made_new old new is_import k
 }
 
 -- bytes that are no trace's text, for a job that makes nothing
-pub explained : (known : Option (List ℕ)) (made_old made_new : Option (List ℕ)) → IfSome known TellsNoTrace → made_new ≡ made_old
-    → IfSome known (λ bytes. TellsNoTrace bytes × (made_new ≡ made_old))
+pub explained : (known : Option (List ℕ)) (made_old made_new : Option (List ℕ)) → IfSome known ReportsNoTrace → made_new ≡ made_old
+    → IfSome known (λ bytes. ReportsNoTrace bytes × (made_new ≡ made_old))
 explained None made_old made_new none same = tt
 explained (Some bytes) made_old made_new none same = (none, same)
 
@@ -69,8 +69,8 @@ pub explains_accepted : (known : Option (List ℕ)) (is_drawn : Bool) (asked : S
     → HasAnswered is_drawn answer.Accepted result made_old made_new
     → IfOk result (λ e. IfSome known (λ bytes. WritesExplained asked bytes e.answer old new))
     → (is_drawn ≡ true → IfOk result (λ e. IfSome known (λ bytes. PictureSays asked bytes e.picture)))
-    → IfOk result (λ e. e.answer ≡ answer.Accepted → IfSome known SpellsConvergent)
-    → IfSome known (λ bytes. SpellsConvergent bytes × Explains is_drawn asked bytes answer.Accepted made_old made_new old new)
+    → IfOk result (λ e. e.answer ≡ answer.Accepted → IfSome known EncodesConvergent)
+    → IfSome known (λ bytes. EncodesConvergent bytes × Explains is_drawn asked bytes answer.Accepted made_old made_new old new)
 explains_accepted None is_drawn asked result made_old made_new old new has writes says converges = tt
 explains_accepted (Some bytes) is_drawn asked (Ok e) made_old made_new old new has writes says converges =
     (converges has.0, explains (Some bytes) is_drawn asked answer.Accepted (Ok e) made_old made_new old new has writes says)

@@ -16,7 +16,7 @@ use Rattle.cops_trace.specs.Answer.{Says}
 use Rattle.cops_trace.specs.Lines.{fault_line}
 use Rattle.cops_scenario.specs.Scenario.{AScenario}
 use Rattle.cops_scenario.specs.File.{IsTextOf}
-use Rattle.cops_command.specs.Scenario.{TellsNone}
+use Rattle.cops_command.specs.Scenario.{ReportsNone}
 use Rattle.cops_command.specs.Status.{number}
 use Rattle.cops_command.specs.declared.status.Status.TheVariants.{Accepted, Faulty}
 use Rattle.cops_stream.specs.declared.audit.Answer.{Answer}
@@ -29,27 +29,27 @@ use Rattle.cops_stream.specs.Convert.{ConvertsAlike, converted_line}
 use Rattle.cops_stream.specs.Explain.{PictureSays, WritesExplained}
 use Rattle.cops_stream.specs.Show.{Shows}
 use Rattle.cops_stream.specs.SoFar.{IsSoundSoFar, WritesSoFar}
-use Rattle.cops_stream.specs.Convergent.{SpellsConvergent}
+use Rattle.cops_stream.specs.Convergent.{EncodesConvergent}
 use Rattle.cops_import.specs.Faults.{IsFirstFaulty}
 use Rattle.cops_import.specs.Imports.{IsImport}
-use Rattle.cops_import.specs.Words.{faulty_line, told_text}
+use Rattle.cops_import.specs.Words.{faulty_line, reported_text}
 use Rattle.cops_import.specs.declared.fault.ImportFault.{ImportFault}
 use Rattle.cops_import.specs.declared.fault.ImportFault.TheVariants.{Line}
-use Rattle.cops_import.specs.declared.fault.LineFault.{LineFault}
+use Rattle.cops_import.specs.declared.fault.JsonLineFault.{JsonLineFault}
 use Rattle.cops_run_stream.specs.Running.{EndsWell as HasRun}
 use Rattle.cops_serve.specs.Serving.{IsServed}
 
 -- the bytes are a trace's text
-abbrev pub TellsTrace : List ℕ → Type 0
-TellsTrace bytes = (t : ATrace) × Says bytes (Ok t)
+abbrev pub ReportsTrace : List ℕ → Type 0
+ReportsTrace bytes = (t : ATrace) × Says bytes (Ok t)
 
 -- the bytes are no trace's text, because of a fault
-abbrev pub TellsNoTrace : List ℕ → Type 0
-TellsNoTrace bytes = (e : TraceFault) × Says bytes (Err e)
+abbrev pub ReportsNoTrace : List ℕ → Type 0
+ReportsNoTrace bytes = (e : TraceFault) × Says bytes (Err e)
 
 -- the bytes are no trace's text, because of a fault that is no cut
-abbrev pub TellsOtherFault : List ℕ → Type 0
-TellsOtherFault bytes = (e : TraceFault) × ((offset : ℕ) → e ≢ Cut offset) × Says bytes (Err e)
+abbrev pub ReportsOtherFault : List ℕ → Type 0
+ReportsOtherFault bytes = (e : TraceFault) × ((offset : ℕ) → e ≢ Cut offset) × Says bytes (Err e)
 
 -- the bytes of a picture, none where there is no picture
 abbrev pub drawn_text : Option (Vec ℕ) → List ℕ
@@ -86,16 +86,16 @@ pub record Imports (bytes : List ℕ) (made_old made_new old new : Option (List 
   pub names : List (List ℕ)
   pub operations : ℕ
   pub is_import : IsImport bytes made_old made_new names operations
-  pub printed : Appends old new (told_text names operations)
+  pub printed : Appends old new (reported_text names operations)
 
 -- the report of a line that is wrong was printed
 abbrev pub PrintsLine : ImportFault → Option (List ℕ) → Option (List ℕ) → Type 0
-PrintsLine e old new = (line : ℕ) × (fault : LineFault) × (e ≡ Line line fault) × Appends old new (faulty_line line fault)
+PrintsLine e old new = (line : ℕ) × (fault : JsonLineFault) × (e ≡ Line line fault) × Appends old new (faulty_line line fault)
 
 -- the report of the first line of the bytes that is wrong was printed; the writer of the trace gained a proper prefix of a trace's text
 pub record StopsAtLine (bytes : List ℕ) (made_old made_new old new : Option (List ℕ)) : Type 0 where
   pub line : ℕ
-  pub fault : LineFault
+  pub fault : JsonLineFault
   pub is_first : IsFirstFaulty bytes line fault
   pub printed : Appends old new (faulty_line line fault)
   pub written : ℕ
@@ -115,11 +115,11 @@ HasServed sessions bytes old new = (s : AScenario) × IsTextOf bytes s × ((text
 
 -- What holds where a job ends as accepted, for its input and for what the writers gained. A job that makes nothing leaves `made` as it was.
 abbrev pub EndsWell : Job → List ℕ → Option (List ℕ) → Option (List ℕ) → Option (List ℕ) → Option (List ℕ) → Type 0
-EndsWell (Audit trace workers) bytes made_old made_new old new = SpellsConvergent bytes × Writes bytes answer.Accepted old new × (made_new ≡ made_old)
+EndsWell (Audit trace workers) bytes made_old made_new old new = EncodesConvergent bytes × Writes bytes answer.Accepted old new × (made_new ≡ made_old)
 EndsWell (SoFar trace) bytes made_old made_new old new = IsSoundSoFar bytes × WritesSoFar bytes answer.Accepted old new × (made_new ≡ made_old)
 EndsWell (Explain trace faults picture) bytes made_old made_new old new =
-    SpellsConvergent bytes × Explains (is_some picture) faults bytes answer.Accepted made_old made_new old new
-EndsWell (Show trace) bytes made_old made_new old new = TellsTrace bytes × Shows bytes (number Accepted) old new × (made_new ≡ made_old)
+    EncodesConvergent bytes × Explains (is_some picture) faults bytes answer.Accepted made_old made_new old new
+EndsWell (Show trace) bytes made_old made_new old new = ReportsTrace bytes × Shows bytes (number Accepted) old new × (made_new ≡ made_old)
 EndsWell (Import lines trace) bytes made_old made_new old new = Imports bytes made_old made_new old new
 EndsWell (Convert trace made) bytes made_old made_new old new = HasConverted bytes made_old made_new old new
 EndsWell (Run scenario trace) bytes made_old made_new old new = HasRun bytes made_old made_new old new
@@ -136,15 +136,15 @@ EndsRefused job bytes made_old made_new old new = ⊥
 -- What holds where a job ends as faulty: the bytes are no trace's text, or no scenario's, or one of their lines is wrong; a cut is no fault for a
 -- verdict so far. No trace is written whole.
 abbrev pub EndsFaulty : Job → List ℕ → Option (List ℕ) → Option (List ℕ) → Option (List ℕ) → Option (List ℕ) → Type 0
-EndsFaulty (Audit trace workers) bytes made_old made_new old new = TellsNoTrace bytes × Writes bytes answer.Faulty old new × (made_new ≡ made_old)
-EndsFaulty (SoFar trace) bytes made_old made_new old new = TellsOtherFault bytes × WritesSoFar bytes answer.Faulty old new × (made_new ≡ made_old)
+EndsFaulty (Audit trace workers) bytes made_old made_new old new = ReportsNoTrace bytes × Writes bytes answer.Faulty old new × (made_new ≡ made_old)
+EndsFaulty (SoFar trace) bytes made_old made_new old new = ReportsOtherFault bytes × WritesSoFar bytes answer.Faulty old new × (made_new ≡ made_old)
 EndsFaulty (Explain trace faults picture) bytes made_old made_new old new =
-    TellsNoTrace bytes × (made_new ≡ made_old)
-EndsFaulty (Show trace) bytes made_old made_new old new = TellsNoTrace bytes × Shows bytes (number Faulty) old new × (made_new ≡ made_old)
+    ReportsNoTrace bytes × (made_new ≡ made_old)
+EndsFaulty (Show trace) bytes made_old made_new old new = ReportsNoTrace bytes × Shows bytes (number Faulty) old new × (made_new ≡ made_old)
 EndsFaulty (Import lines trace) bytes made_old made_new old new = StopsAtLine bytes made_old made_new old new
 EndsFaulty (Convert trace made) bytes made_old made_new old new = IsUnconverted bytes made_old made_new old new
-EndsFaulty (Run scenario trace) bytes made_old made_new old new = TellsNone bytes × Keeps made_old made_new
-EndsFaulty (Serve port scenario sessions idle) bytes made_old made_new old new = TellsNone bytes × (made_new ≡ made_old)
+EndsFaulty (Run scenario trace) bytes made_old made_new old new = ReportsNone bytes × Keeps made_old made_new
+EndsFaulty (Serve port scenario sessions idle) bytes made_old made_new old new = ReportsNone bytes × (made_new ≡ made_old)
 
 -- the number of workers of an audit is allowed
 abbrev pub MayWork : Job → Type 0

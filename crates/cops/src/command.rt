@@ -5,21 +5,21 @@ ghost use Rattle.cops_types.specs.declared.limits.TheConstants.{MAX_WORKERS};
 ghost use Rattle.cops_types.specs.Counted.{inner};
 ghost use Rattle.cops_trace.specs.declared.fault.TraceFault.{TraceFault as AFault};
 ghost use Rattle.cops_trace.specs.Lines.{fault_line as fault_text};
-ghost use Rattle.cops_import.specs.Words.{told_text, faulty_line as faulty_text};
+ghost use Rattle.cops_import.specs.Words.{reported_text, faulty_line as faulty_text};
 ghost use Rattle.cops_stream.specs.Audit.{Writes, answer_status};
 ghost use Rattle.cops_stream.specs.Convert.{converted_line as converted_text};
-ghost use Rattle.cops_stream.specs.Convergent.{SpellsConvergent};
+ghost use Rattle.cops_stream.specs.Convergent.{EncodesConvergent};
 ghost use Rattle.cops_stream.specs.Show.{Shows};
 ghost use Rattle.cops_stream.specs.SoFar.{IsSoundSoFar, WritesSoFar};
-ghost use Rattle.cops_command.specs.Scenario.{TellsNone};
+ghost use Rattle.cops_command.specs.Scenario.{ReportsNone};
 ghost use Rattle.cops_command.specs.Status.{number, number as status_number};
 ghost use Rattle.cops_command.specs.declared.status.Status.TheVariants.{Accepted, Failed, Faulty, NoMemory, Refused};
 ghost use Rattle.cops_run_stream.specs.Running.{EndsWell as HasRun};
-ghost use Rattle.cops.specs.Status.{EndsFaulty, EndsRefused, EndsWell, Explains, HasAnswered, HasConverted, HasServed, Imports, IsFaultyAnswer, IsUnconverted, MayWork, PrintsLine, StopsAtLine, TellsNoTrace, TellsOtherFault, TellsTrace, drawn_text};
+ghost use Rattle.cops.specs.Status.{EndsFaulty, EndsRefused, EndsWell, Explains, HasAnswered, HasConverted, HasServed, Imports, IsFaultyAnswer, IsUnconverted, MayWork, PrintsLine, StopsAtLine, ReportsNoTrace, ReportsOtherFault, ReportsTrace, drawn_text};
 
 use crate::output::Output;
 use cops_command::{Status, print};
-use cops_import::{ImportFault, Imported, LineFault, Unimported, faulty_line, import_stream};
+use cops_import::{ImportFault, Imported, JsonLineFault, Unimported, faulty_line, import_stream};
 use cops_line::Job;
 use cops_run_stream::{Streamed, run_stream};
 use cops_serve::serve_stream;
@@ -148,12 +148,12 @@ where
     I: Read,
     W: Write,
     E: Write,
-    ensures accepted { result.status ≡ number Accepted → IfSome (I.remaining (inner input.old)) (λ bytes. SpellsConvergent bytes
+    ensures accepted { result.status ≡ number Accepted → IfSome (I.remaining (inner input.old)) (λ bytes. EncodesConvergent bytes
         × Writes bytes Answer.Accepted (W.contents (inner outputs.out)) (W.contents (inner result.outputs.out))) }
     ensures refused { result.status ≡ number Refused → IfSome (I.remaining (inner input.old)) (λ bytes.
         Writes bytes Answer.Refused (W.contents (inner outputs.out)) (W.contents (inner result.outputs.out))) }
     ensures faulty { result.status ≡ number Faulty → (1 ≤ workers) → (workers ≤ MAX_WORKERS) → IfSome (I.remaining (inner input.old)) (λ bytes.
-        TellsNoTrace bytes × Writes bytes Answer.Faulty (W.contents (inner outputs.out)) (W.contents (inner result.outputs.out))) }
+        ReportsNoTrace bytes × Writes bytes Answer.Faulty (W.contents (inner outputs.out)) (W.contents (inner result.outputs.out))) }
     ensures made { result.outputs.made ≡ outputs.made }
 {
     let Outputs {
@@ -184,7 +184,7 @@ where
         × WritesSoFar bytes Answer.Accepted (W.contents (inner outputs.out)) (W.contents (inner result.outputs.out))) }
     ensures refused { result.status ≡ number Refused → IfSome (I.remaining (inner input.old)) (λ bytes.
         WritesSoFar bytes Answer.Refused (W.contents (inner outputs.out)) (W.contents (inner result.outputs.out))) }
-    ensures faulty { result.status ≡ number Faulty → IfSome (I.remaining (inner input.old)) (λ bytes. TellsOtherFault bytes
+    ensures faulty { result.status ≡ number Faulty → IfSome (I.remaining (inner input.old)) (λ bytes. ReportsOtherFault bytes
         × WritesSoFar bytes Answer.Faulty (W.contents (inner outputs.out)) (W.contents (inner result.outputs.out))) }
     ensures made { result.outputs.made ≡ outputs.made }
 {
@@ -215,11 +215,11 @@ where
     T: Write + Output,
     W: Write,
     E: Write,
-    ensures accepted { result.status ≡ number Accepted → IfSome (I.remaining (inner input.old)) (λ bytes. SpellsConvergent bytes × Explains is_drawn faults bytes Answer.Accepted
+    ensures accepted { result.status ≡ number Accepted → IfSome (I.remaining (inner input.old)) (λ bytes. EncodesConvergent bytes × Explains is_drawn faults bytes Answer.Accepted
         (T.contents (inner outputs.made)) (T.contents (inner result.outputs.made)) (W.contents (inner outputs.out)) (W.contents (inner result.outputs.out))) }
     ensures refused { result.status ≡ number Refused → IfSome (I.remaining (inner input.old)) (λ bytes. Explains is_drawn faults bytes Answer.Refused
         (T.contents (inner outputs.made)) (T.contents (inner result.outputs.made)) (W.contents (inner outputs.out)) (W.contents (inner result.outputs.out))) }
-    ensures faulty { result.status ≡ number Faulty → IfSome (I.remaining (inner input.old)) TellsNoTrace }
+    ensures faulty { result.status ≡ number Faulty → IfSome (I.remaining (inner input.old)) ReportsNoTrace }
     ensures undrawn { result.status ≡ number Faulty → T.contents (inner result.outputs.made) ≡ T.contents (inner outputs.made) }
 {
     let Outputs {
@@ -295,10 +295,10 @@ where
     I: Read,
     W: Write,
     E: Write,
-    ensures shown { result.status ≡ number Accepted → IfSome (I.remaining (inner input.old)) (λ bytes. TellsTrace bytes
+    ensures shown { result.status ≡ number Accepted → IfSome (I.remaining (inner input.old)) (λ bytes. ReportsTrace bytes
         × Shows bytes (number Accepted) (W.contents (inner outputs.out)) (W.contents (inner result.outputs.out))) }
     ensures refused { result.status ≡ number Refused → IfSome (I.remaining (inner input.old)) (λ _. ⊥) }
-    ensures faulty { result.status ≡ number Faulty → IfSome (I.remaining (inner input.old)) (λ bytes. TellsNoTrace bytes
+    ensures faulty { result.status ≡ number Faulty → IfSome (I.remaining (inner input.old)) (λ bytes. ReportsNoTrace bytes
         × Shows bytes (number Faulty) (W.contents (inner outputs.out)) (W.contents (inner result.outputs.out))) }
     ensures made { result.outputs.made ≡ outputs.made }
 {
@@ -341,7 +341,7 @@ where
         mut errors,
     } = outputs;
     let (status, made) = match import_stream(alloc, clients, input, made) {
-        Ok(imported) => told(alloc, imported, &mut out, &mut errors),
+        Ok(imported) => reported(alloc, imported, &mut out, &mut errors),
         Err(unimported) => {
             let Unimported { fault, writer } = unimported;
             let why = writer.get_ref().failure();
@@ -357,7 +357,7 @@ where
 
 /// Prints what was imported, after its trace is flushed, and returns the status and the trace's writer. The text is
 /// built first: where memory runs out nothing is flushed.
-fn told<T, W, E>(
+fn reported<T, W, E>(
     alloc: Global,
     imported: Imported<T>,
     out: &mut Counted<W>,
@@ -367,11 +367,11 @@ where
     T: Write + Output + Drop,
     W: Write,
     E: Write,
-    ensures told { result.0 ≡ number Accepted → Keeps (T.contents (inner imported.writer)) (T.contents (inner result.1))
-        × Appends (W.contents (inner out.old)) (W.contents (inner out.new)) (told_text imported.names imported.operations) }
+    ensures reported { result.0 ≡ number Accepted → Keeps (T.contents (inner imported.writer)) (T.contents (inner result.1))
+        × Appends (W.contents (inner out.old)) (W.contents (inner out.new)) (reported_text imported.names imported.operations) }
     ensures other { (result.0 ≢ number Refused) × (result.0 ≢ number Faulty) }
 {
-    let text = imported.told(alloc);
+    let text = imported.reported(alloc);
     let Imported { mut writer, .. } = imported;
     let Ok(text) = text else {
         return (failed(errors, NO_MEMORY, Status::NoMemory), writer);
@@ -413,7 +413,7 @@ where
 fn faulty<W, E>(
     alloc: Global,
     number: u64,
-    fault: LineFault,
+    fault: JsonLineFault,
     out: &mut Counted<W>,
     errors: &mut Counted<E>,
 ) -> u8
@@ -533,7 +533,7 @@ where
     ensures ran { result.status ≡ number Accepted → IfSome (I.remaining (inner input.old)) (λ bytes. HasRun bytes
         (T.contents (inner outputs.made)) (T.contents (inner result.outputs.made)) (W.contents (inner outputs.out)) (W.contents (inner result.outputs.out))) }
     ensures refused { result.status ≡ number Refused → IfSome (I.remaining (inner input.old)) (λ _. ⊥) }
-    ensures faulty { result.status ≡ number Faulty → IfSome (I.remaining (inner input.old)) (λ bytes. TellsNone bytes
+    ensures faulty { result.status ≡ number Faulty → IfSome (I.remaining (inner input.old)) (λ bytes. ReportsNone bytes
         × Keeps (T.contents (inner outputs.made)) (T.contents (inner result.outputs.made))) }
 {
     let Outputs {
@@ -573,7 +573,7 @@ where
     ensures served { result.status ≡ number Accepted → IfSome (I.remaining (inner input.old)) (λ bytes.
         HasServed sessions bytes (W.contents (inner outputs.out)) (W.contents (inner result.outputs.out))) }
     ensures refused { result.status ≡ number Refused → IfSome (I.remaining (inner input.old)) (λ _. ⊥) }
-    ensures faulty { result.status ≡ number Faulty → IfSome (I.remaining (inner input.old)) TellsNone }
+    ensures faulty { result.status ≡ number Faulty → IfSome (I.remaining (inner input.old)) ReportsNone }
     ensures made { result.outputs.made ≡ outputs.made }
 {
     let Outputs {

@@ -15,7 +15,7 @@ mod progress;
 use crate::command::{Ended, Outputs, command};
 use crate::input::{Source, plain_output};
 use crate::lines::{NoLines, copied, created, is_plain, rewound};
-use crate::output::{Draft, Made, Printed, Renewed};
+use crate::output::{DraftFile, MadeFile, Printed, Rebuilt};
 use crate::progress::{Cleared, Reading, Watched, begun, remove};
 use cops_command::Status;
 use cops_import::{ImportFault, count_clients};
@@ -55,7 +55,7 @@ fn failed<R: Eprint>(rt: &R, why: &str, status: Status) -> u8
 enum Target<'a> {
     Nothing,
     Standard,
-    File(&'a str, Renewed),
+    File(&'a str, Rebuilt),
 }
 
 impl<'a> Target<'a> {
@@ -65,7 +65,7 @@ impl<'a> Target<'a> {
             None => Ok(Target::Nothing),
             Some("-") => Ok(Target::Standard),
             Some(name) => {
-                let file = Renewed::open(rt, name)?;
+                let file = Rebuilt::open(rt, name)?;
                 Ok(Target::File(name, file))
             }
         }
@@ -73,7 +73,7 @@ impl<'a> Target<'a> {
 }
 
 /// Removes the file with this name, if it was created and nothing was written to it.
-fn close<R: Files>(rt: &R, name: &str, file: Renewed) {
+fn close<R: Files>(rt: &R, name: &str, file: Rebuilt) {
     if file.is_idle() {
         let _ = fs::remove_file(rt, name);
     }
@@ -87,10 +87,10 @@ fn give_up<R: Files>(rt: &R, target: Target<'_>) {
 }
 
 /// Drops the writer of what a job made.
-fn close_made<R: Files + Print>(rt: &R, name: Option<&str>, made: Made<'_, R>) {
+fn close_made<R: Files + Print>(rt: &R, name: Option<&str>, made: MadeFile<'_, R>) {
     match (name, made) {
-        (Some(name), Made::File(file)) => close(rt, name, file),
-        (Some(name), Made::Draft(draft)) => close(rt, name, draft.into_output()),
+        (Some(name), MadeFile::File(file)) => close(rt, name, file),
+        (Some(name), MadeFile::DraftFile(draft)) => close(rt, name, draft.into_output()),
         _ => {}
     }
 }
@@ -139,16 +139,16 @@ where
 /// The writers of a command. What it prints goes to standard error where what it makes goes to standard output.
 fn outputs<'r, R, E>(
     rt: &'r R,
-    made: Made<'r, R>,
+    made: MadeFile<'r, R>,
     errors: E,
     begun: Option<Instant>,
-) -> Outputs<Made<'r, R>, Cleared<'r, R, Printed<'r, R, E>>, Cleared<'r, R, E>>
+) -> Outputs<MadeFile<'r, R>, Cleared<'r, R, Printed<'r, R, E>>, Cleared<'r, R, E>>
 where
     R: Print + Eprint + Clock,
     E: Write + Copy + Drop,
 {
     let printed = match made {
-        Made::Standard(_) | Made::Gathered(_) => Printed::Errors(errors),
+        MadeFile::Standard(_) | MadeFile::Gathered(_) => Printed::Errors(errors),
         _ => Printed::Output(io::writer(rt)),
     };
     Outputs {
@@ -187,18 +187,18 @@ where
 
 /// The writer for what a job that is no import makes. The file of a run is emptied before its scenario is read; that of
 /// a picture keeps its content until there is something to replace it.
-fn made_at_once<'r, R>(rt: &'r R, job: Job<'_>, target: Target<'_>) -> io::Result<Made<'r, R>>
+fn made_at_once<'r, R>(rt: &'r R, job: Job<'_>, target: Target<'_>) -> io::Result<MadeFile<'r, R>>
 where
     R: Print,
 {
     match target {
-        Target::Nothing => Ok(Made::Nothing),
-        Target::Standard => Ok(Made::Standard(io::writer(rt))),
+        Target::Nothing => Ok(MadeFile::Nothing),
+        Target::Standard => Ok(MadeFile::Standard(io::writer(rt))),
         Target::File(_, mut file) => {
             if let Job::Run { .. } = job {
                 file.begin()?;
             }
-            Ok(Made::File(file))
+            Ok(MadeFile::File(file))
         }
     }
 }
@@ -208,7 +208,7 @@ fn perform_over<R, S, E>(
     rt: &R,
     job: Job<'_>,
     source: Source<S>,
-    made: Made<'_, R>,
+    made: MadeFile<'_, R>,
     errors: E,
 ) -> u8
 where
@@ -307,18 +307,18 @@ where
 }
 
 /// The writer for the trace of an import. A file gets the trace only when it is whole.
-fn drafted<'r, R>(rt: &'r R, target: Target<'_>, process: u32) -> Result<Made<'r, R>, NoLines>
+fn drafted<'r, R>(rt: &'r R, target: Target<'_>, process: u32) -> Result<MadeFile<'r, R>, NoLines>
 where
     R: Files<File = File> + Print + AllocGlobal + Env,
 {
     match target {
-        Target::Nothing => Ok(Made::Nothing),
+        Target::Nothing => Ok(MadeFile::Nothing),
         Target::Standard => match BufWriter::new(rt.alloc(), io::writer(rt)) {
-            Ok(writer) => Ok(Made::Gathered(writer)),
+            Ok(writer) => Ok(MadeFile::Gathered(writer)),
             Err(_) => Err(NoLines::Memory),
         },
         Target::File(name, file) => match waiting(rt, process) {
-            Ok(waiting) => Ok(Made::Draft(Draft::new(waiting, file))),
+            Ok(waiting) => Ok(MadeFile::DraftFile(DraftFile::new(waiting, file))),
             Err(why) => {
                 close(rt, name, file);
                 Err(why)

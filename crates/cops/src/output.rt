@@ -26,17 +26,17 @@ pub trait Output {
 
 /// A file whose old bytes are dropped at the first write or flush, and kept where neither happens.
 #[derive(Drop)]
-pub struct Renewed {
+pub struct Rebuilt {
     file: File,
     is_begun: bool,
     is_new: bool,
 }
 
-impl Renewed {
+impl Rebuilt {
     /// Opens the file with this name, and creates an empty one where there is none.
-    pub fn open<R: Files<File = File>>(rt: &R, name: &str) -> io::Result<Renewed> {
+    pub fn open<R: Files<File = File>>(rt: &R, name: &str) -> io::Result<Rebuilt> {
         if let Ok(file) = File::create_new(rt, name) {
-            return Ok(Renewed {
+            return Ok(Rebuilt {
                 file,
                 is_begun: false,
                 is_new: true,
@@ -45,7 +45,7 @@ impl Renewed {
         let mut options = OpenOptions::new();
         options.write(true).create(true);
         let file = options.open(rt, name)?;
-        Ok(Renewed {
+        Ok(Rebuilt {
             file,
             is_begun: false,
             is_new: false,
@@ -76,7 +76,7 @@ impl Renewed {
     }
 }
 
-impl Write for Renewed {
+impl Write for Rebuilt {
     fn write(&mut self, buf: &[u8]) -> io::Result<usize> {
         self.begin()?;
         self.file.write(buf)
@@ -90,16 +90,16 @@ impl Write for Renewed {
 
 /// The content of a file that is written only when it is complete: until it is flushed it is kept in another file.
 #[derive(Drop)]
-pub struct Draft {
+pub struct DraftFile {
     waiting: BufWriter<File>,
-    output: Renewed,
+    output: Rebuilt,
     is_copy_at_fault: bool,
 }
 
-impl Draft {
+impl DraftFile {
     /// An empty draft of that output. What is written is kept in `waiting`, an empty file that can be read.
-    pub fn new(waiting: BufWriter<File>, output: Renewed) -> Draft {
-        Draft {
+    pub fn new(waiting: BufWriter<File>, output: Rebuilt) -> DraftFile {
+        DraftFile {
             waiting,
             output,
             is_copy_at_fault: false,
@@ -107,7 +107,7 @@ impl Draft {
     }
 
     /// The output, as it is.
-    pub fn into_output(self) -> Renewed {
+    pub fn into_output(self) -> Rebuilt {
         self.output
     }
 
@@ -127,7 +127,7 @@ impl Draft {
     }
 }
 
-impl Write for Draft {
+impl Write for DraftFile {
     fn write(&mut self, buf: &[u8]) -> io::Result<usize> {
         let answer = self.waiting.write(buf);
         self.is_copy_at_fault = answer.is_err();
@@ -148,7 +148,7 @@ impl Write for Draft {
 
 /// The writer for the trace or the picture that a command makes.
 #[derive(Drop)]
-pub enum Made<'r, R: Print> {
+pub enum MadeFile<'r, R: Print> {
     /// The command makes neither.
     Nothing,
     /// Standard output.
@@ -156,37 +156,37 @@ pub enum Made<'r, R: Print> {
     /// Standard output, with a buffer.
     Gathered(BufWriter<Printer<'r, R>>),
     /// A file.
-    File(Renewed),
+    File(Rebuilt),
     /// A file that is written only when all is there.
-    Draft(Draft),
+    DraftFile(DraftFile),
 }
 
-impl<R: Print> Write for Made<'_, R> {
+impl<R: Print> Write for MadeFile<'_, R> {
     fn write(&mut self, buf: &[u8]) -> io::Result<usize> {
         match self {
-            Made::Nothing => Err(io::Error::from(ErrorKind::Unsupported)),
-            Made::Standard(writer) => writer.write(buf),
-            Made::Gathered(writer) => writer.write(buf),
-            Made::File(file) => file.write(buf),
-            Made::Draft(draft) => draft.write(buf),
+            MadeFile::Nothing => Err(io::Error::from(ErrorKind::Unsupported)),
+            MadeFile::Standard(writer) => writer.write(buf),
+            MadeFile::Gathered(writer) => writer.write(buf),
+            MadeFile::File(file) => file.write(buf),
+            MadeFile::DraftFile(draft) => draft.write(buf),
         }
     }
 
     fn flush(&mut self) -> io::Result<()> {
         match self {
-            Made::Nothing => Ok(()),
-            Made::Standard(writer) => writer.flush(),
-            Made::Gathered(writer) => writer.flush(),
-            Made::File(file) => file.flush(),
-            Made::Draft(draft) => draft.flush(),
+            MadeFile::Nothing => Ok(()),
+            MadeFile::Standard(writer) => writer.flush(),
+            MadeFile::Gathered(writer) => writer.flush(),
+            MadeFile::File(file) => file.flush(),
+            MadeFile::DraftFile(draft) => draft.flush(),
         }
     }
 }
 
-impl<R: Print> Output for Made<'_, R> {
+impl<R: Print> Output for MadeFile<'_, R> {
     fn failure(&self) -> &'static [u8] {
         match self {
-            Made::Draft(draft) if draft.is_copy_at_fault => COPY_FAILED,
+            MadeFile::DraftFile(draft) if draft.is_copy_at_fault => COPY_FAILED,
             _ => WRITE_FAILED,
         }
     }

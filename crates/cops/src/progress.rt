@@ -15,16 +15,16 @@ const NO_RECORD: u32 = 5;
 /// Counts the records of a text byte by byte. A frame is a length of four bytes, the most significant first, and then
 /// as many bytes.
 #[derive(Drop)]
-struct Records {
+struct FrameRecords {
     ended: u64,
     length: u32,
     length_bytes: u8,
     left: u32,
 }
 
-impl Records {
-    fn new() -> Records {
-        Records {
+impl FrameRecords {
+    fn new() -> FrameRecords {
+        FrameRecords {
             ended: 0,
             length: 0,
             length_bytes: 0,
@@ -55,22 +55,22 @@ impl Records {
 
 /// What is counted of the bytes that are read.
 #[derive(Drop)]
-enum Counts {
+enum ProgressCounts {
     /// The records of a trace.
-    Records(Records),
+    FrameRecords(FrameRecords),
     /// Lines, in a reading with this name.
     Lines { ended: u64, reading: &'static str },
 }
 
-impl Counts {
+impl ProgressCounts {
     fn take(&mut self, piece: &[u8]) {
         match self {
-            Counts::Records(records) => {
+            ProgressCounts::FrameRecords(records) => {
                 for byte in piece {
                     records.take(*byte);
                 }
             }
-            Counts::Lines { ended, .. } => {
+            ProgressCounts::Lines { ended, .. } => {
                 for byte in piece {
                     if *byte == b'\n' {
                         *ended = ended.saturating_add(1);
@@ -89,8 +89,12 @@ pub enum Reading {
 }
 
 /// When a command began, if it shows how much it read.
-pub fn begun<R: Clock>(rt: &R, is_told: bool) -> Option<Instant> {
-    if is_told { Instant::now(rt).ok() } else { None }
+pub fn begun<R: Clock>(rt: &R, is_reported: bool) -> Option<Instant> {
+    if is_reported {
+        Instant::now(rt).ok()
+    } else {
+        None
+    }
 }
 
 /// Removes the line that shows how much a command read, if it began so long ago that there may be one.
@@ -109,8 +113,8 @@ pub fn remove<R: Clock + Eprint>(rt: &R, begun: Option<Instant>) {
 #[derive(Drop)]
 struct Progress<'r, R> {
     rt: &'r R,
-    told: Instant,
-    counts: Counts,
+    reported: Instant,
+    counts: ProgressCounts,
     bytes: u64,
 }
 
@@ -122,21 +126,21 @@ impl<R: Clock + Eprint> Progress<'_, R> {
         let Ok(now) = Instant::now(self.rt) else {
             return;
         };
-        if now.saturating_duration_since(self.told).as_secs() < PATIENCE {
+        if now.saturating_duration_since(self.reported).as_secs() < PATIENCE {
             return;
         }
-        self.told = now;
-        self.tell();
+        self.reported = now;
+        self.report();
     }
 
-    fn tell(&self) {
+    fn report(&self) {
         let bytes = self.bytes;
         let _ = match &self.counts {
-            Counts::Records(records) => {
+            ProgressCounts::FrameRecords(records) => {
                 let operations = records.ended;
                 eprint!(self.rt; "\r{operations} operations, {bytes} bytes")
             }
-            Counts::Lines { ended, reading } => {
+            ProgressCounts::Lines { ended, reading } => {
                 eprint!(self.rt; "\r\x1b[K{reading}: {ended} lines, {bytes} bytes")
             }
         };
@@ -186,13 +190,13 @@ impl<'r, R, I> Watched<'r, R, I> {
         ensures { result.input ≡ input }
     {
         let counts = match reading {
-            Reading::Trace => Counts::Records(Records::new()),
-            Reading::Lines(reading) => Counts::Lines { ended: 0, reading },
+            Reading::Trace => ProgressCounts::FrameRecords(FrameRecords::new()),
+            Reading::Lines(reading) => ProgressCounts::Lines { ended: 0, reading },
         };
         let progress = match begun {
             Some(begun) => Some(Progress {
                 rt,
-                told: begun,
+                reported: begun,
                 counts,
                 bytes: 0,
             }),

@@ -5,16 +5,16 @@ use Rattle.std.proofs.lemmas.Bool.{cases_lt, cases_order}
 use Rattle.cops_types.specs.declared.op.OpName.{OpName}
 use Rattle.cops_types.specs.Histories.{Sessions}
 use Rattle.cops_types.specs.declared.versioned_put.VersionedPut.{VersionedPut}
-use Rattle.cops_audit.specs.declared.notes.Note.{Note}
-use Rattle.cops_audit.specs.declared.notes.Seen.TheVariants.{Put}
+use Rattle.cops_audit.specs.declared.summaries.Summary.{Summary}
+use Rattle.cops_audit.specs.declared.summaries.OpPlace.TheVariants.{Put}
 use Rattle.cops_audit.specs.declared.window.Suspect.{Suspect}
 use Rattle.cops_audit.specs.Clocks.{AreCleared, ArePassed, Knows, NoneCounted}
 use Rattle.cops_audit.specs.Keys.{AreFirsts, IsNext, OnKey}
-use Rattle.cops_audit.specs.Notes.{StandsAt, note_at}
+use Rattle.cops_audit.specs.Summaries.{StandsAt, summary_at}
 use Rattle.cops_audit.specs.Sweeps.{AreRising, Counted, NoneFrom}
 use Rattle.cops_audit.specs.Tables.{IsVersionTable}
 use Rattle.cops_audit.proofs.Bridging.{key_at, past_end}
-use Rattle.cops_audit.proofs.Closing.{note_past_mark, own_mark}
+use Rattle.cops_audit.proofs.Closing.{summary_past_mark, own_mark}
 use Rattle.cops_audit.proofs.Linking.{same_key, written}
 use Rattle.cops_audit.proofs.Listing.{slice_get_there}
 use Rattle.cops_audit.proofs.Learning.{one_put_at}
@@ -76,13 +76,13 @@ module _ (h : Sessions) (table : List VersionedPut) (t : IsVersionTable h table)
   ]
 
 -- where the clock of a suspect's session counts no newer put below its mark, no newer put is in its past
-module _ (table : List VersionedPut) (notes : List (List Note)) (rising : AreRising table notes) (firsts : List ℕ) (counts : List ℕ) (suspect : Suspect) (note : Note) (noted : note_at notes suspect.op ≡ Some note)
-    (knows : Knows table notes counts suspect.op.client (suspect.op.index + 1)) where
-  pub none_from : NoneCounted table firsts counts note.mark suspect → NoneFrom table notes firsts suspect.op suspect.first suspect.from
+module _ (table : List VersionedPut) (summaries : List (List Summary)) (rising : AreRising table summaries) (firsts : List ℕ) (counts : List ℕ) (suspect : Suspect) (summary : Summary) (summarized : summary_at summaries suspect.op ≡ Some summary)
+    (knows : Knows table summaries counts suspect.op.client (suspect.op.index + 1)) where
+  pub none_from : NoneCounted table firsts counts summary.mark suspect → NoneFrom table summaries firsts suspect.op suspect.first suspect.from
   none_from none place put version stands has from past =
       let own = rising.puts place put version stands in
-      let high = own_mark table notes rising put (record { seen = Put place; mark = own.0 }) own.1 in
-      let le = note_past_mark table notes rising put past (record { seen = Put place; mark = own.0 }) note own.1 noted in
+      let high = own_mark table summaries rising put (record { seen = Put place; mark = own.0 }) own.1 in
+      let le = summary_past_mark table summaries rising put past (record { seen = Put place; mark = own.0 }) summary own.1 summarized in
       none place put version stands has from (omega (arith, high, le)) (knows.past put suspect.op.index (omega arith) past)
 
 pub never_true : (n k : ℕ) → slice_get (replicate n false) k ≡ Some true → ⊥
@@ -91,23 +91,23 @@ never_true (suc n) zero e = cc
 never_true (suc n) (suc k) e = never_true n k e
 
 -- one more suspect is cleared
-pub clear_one : (table : List VersionedPut) (notes : List (List Note)) (firsts : List ℕ) (suspects : List Suspect) (cleared : List Bool) (place : ℕ) (suspect : Suspect) → AreCleared table notes firsts suspects cleared
-    → ((d : Suspect) → suspect ≡ get_or suspects place d) → NoneFrom table notes firsts suspect.op suspect.first suspect.from → AreCleared table notes firsts suspects (slice_set cleared place true)
-clear_one table notes firsts suspects cleared place suspect are at none k d is = elim (written cleared place k true true is) [
+pub clear_one : (table : List VersionedPut) (summaries : List (List Summary)) (firsts : List ℕ) (suspects : List Suspect) (cleared : List Bool) (place : ℕ) (suspect : Suspect) → AreCleared table summaries firsts suspects cleared
+    → ((d : Suspect) → suspect ≡ get_or suspects place d) → NoneFrom table summaries firsts suspect.op suspect.first suspect.from → AreCleared table summaries firsts suspects (slice_set cleared place true)
+clear_one table summaries firsts suspects cleared place suspect are at none k d is = elim (written cleared place k true true is) [
   | inl here ↦
-      subst (λ (n : ℕ). NoneFrom table notes firsts (slice_index_or suspects n d).op (slice_index_or suspects n d).first (slice_index_or suspects n d).from) (sym here.0)
-      (subst (λ (s : Suspect). NoneFrom table notes firsts s.op s.first s.from) (at d) none)
+      subst (λ (n : ℕ). NoneFrom table summaries firsts (slice_index_or suspects n d).op (slice_index_or suspects n d).first (slice_index_or suspects n d).from) (sym here.0)
+      (subst (λ (s : Suspect). NoneFrom table summaries firsts s.op s.first s.from) (at d) none)
   | inr other ↦ are k d other.1
 ]
 
 -- the put at a place is in one of the sessions
-pub put_inside : (table : List VersionedPut) (notes : List (List Note)) → AreRising table notes → (place : ℕ) (put : OpName) (version : ℕ) → StandsAt table place put version → put.client < length notes
-put_inside table notes rising place put version stands = elim (cases_lt put.client (length notes)) [
+pub put_inside : (table : List VersionedPut) (summaries : List (List Summary)) → AreRising table summaries → (place : ℕ) (put : OpName) (version : ℕ) → StandsAt table place put version → put.client < length summaries
+put_inside table summaries rising place put version stands = elim (cases_lt put.client (length summaries)) [
   | inl less ↦ less
   | inr le ↦
       let own = rising.puts place put version stands in
-      let none : slice_index_or notes put.client [] ≡ [] = past_end notes put.client [] le in
-      let less = slice_get_inside (slice_index_or notes put.client []) put.index _ own.1 in
+      let none : slice_index_or summaries put.client [] ≡ [] = past_end summaries put.client [] le in
+      let less = slice_get_inside (slice_index_or summaries put.client []) put.index _ own.1 in
       absurd (omega (arith, less, ap length none))
 ]
 

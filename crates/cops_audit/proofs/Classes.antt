@@ -9,12 +9,12 @@ use Rattle.cops_types.specs.VersionOrder.{IsDoubled, NoneDoubled}
 use Rattle.cops_types.specs.Verdicts.{AllHaveSources, NoneStale}
 use Rattle.cops_audit.specs.SoFar.{HaveSourcesOrWait}
 use Rattle.cops_types.specs.declared.versioned_put.VersionedPut.{VersionedPut}
-use Rattle.cops_audit.specs.declared.notes.Note.{Note}
+use Rattle.cops_audit.specs.declared.summaries.Summary.{Summary}
 use Rattle.cops_audit.specs.declared.verdict.NotAbove.{NotAbove}
 use Rattle.cops_audit.specs.declared.verdict.Stale.{Stale}
 use Rattle.cops_audit.specs.declared.window.Suspect.{Suspect}
 use Rattle.cops_audit.specs.Names.{ListsAmong}
-use Rattle.cops_audit.specs.Notes.{IsNoted, IsSourceless}
+use Rattle.cops_audit.specs.Summaries.{IsSummarized, IsSourceless}
 use Rattle.cops_audit.specs.Tables.{IsPutTable, IsVersionTable}
 use Rattle.cops_audit.specs.Windows.{AreSuspects, IsSuspect}
 use Rattle.cops_audit.proofs.Collect.{among_all, among_none, among_same, get_or-default}
@@ -84,10 +84,10 @@ module _ (h : Sessions) (names : List OpName) (all : Lists (λ n. n) (IsNamed h)
   pub above_listed : (faults : List NotAbove) → ListsAmong (λ f. f.op) (λ f. IsNotAbove h f.op f.earlier) names faults → Lists (λ f. f.op) (λ f. IsNotAbove h f.op f.earlier) faults
   above_listed faults lists = among_all (λ f. f.op) (λ f. IsNotAbove h f.op f.earlier) names faults lists (λ x f. (all.members x.op).1 (_, f.is_not_below.put.2))
 
-  module _ (table : List VersionedPut) (t : IsVersionTable h table) (notes : List (List Note)) (noted : IsNoted h table notes) where
-    pub sourceless_listed : (faults : List OpName) → ListsAmong (λ n. n) (IsSourceless notes) names faults → Lists (λ n. n) (HasNoSource h) faults
+  module _ (table : List VersionedPut) (t : IsVersionTable h table) (summaries : List (List Summary)) (summarized : IsSummarized h table summaries) where
+    pub sourceless_listed : (faults : List OpName) → ListsAmong (λ n. n) (IsSourceless summaries) names faults → Lists (λ n. n) (HasNoSource h) faults
     sourceless_listed faults lists = among_all (λ n. n) (HasNoSource h) names faults
-        (among_same (λ n. n) (IsSourceless notes) (HasNoSource h) names faults (sourceless_same h table t notes noted) lists) (λ x f. (all.members x).1 (_, f.got))
+        (among_same (λ n. n) (IsSourceless summaries) (HasNoSource h) names faults (sourceless_same h table t summaries summarized) lists) (λ x f. (all.members x).1 (_, f.got))
 
 -- where no suspect is stale, no get is
 pub none_stale : (h : Sessions) (table : List VersionedPut) (names : List OpName) (suspects : List Suspect) → Lists (λ n. n) (IsNamed h) names → AreSuspects h table names suspects
@@ -103,10 +103,10 @@ pub none_doubled : (h : Sessions) (table : List VersionedPut) → IsVersionTable
 none_doubled h table t name f =
     let at = place_of_put h table t.table name f.version f.put in
     let d : VersionedPut = record { version = f.version; name = name } in
-    let beside = neighbour_of_doubled h table t.table name f.version at.0 at.1 (λ e. ap (λ (q : VersionedPut). q.version) (at.2 e)) f.put f in
-    elim beside.2 [
-      | inl e ↦ omega (arith, t.rising beside.0 at.0 d (omega (arith, e)) at.1, beside.3 d)
-      | inr e ↦ omega (arith, t.rising at.0 beside.0 d (omega (arith, e)) beside.1, beside.3 d)
+    let parallel = neighbour_of_doubled h table t.table name f.version at.0 at.1 (λ e. ap (λ (q : VersionedPut). q.version) (at.2 e)) f.put f in
+    elim parallel.2 [
+      | inl e ↦ omega (arith, t.rising parallel.0 at.0 d (omega (arith, e)) at.1, parallel.3 d)
+      | inr e ↦ omega (arith, t.rising at.0 parallel.0 d (omega (arith, e)) parallel.1, parallel.3 d)
     ]
 
 -- where versions do not rise, two puts have the same version

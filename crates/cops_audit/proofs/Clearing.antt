@@ -7,13 +7,13 @@ use Rattle.cops_types.specs.Faults.{IsNewer}
 use Rattle.cops_types.specs.Verdicts.{AllAbove}
 use Rattle.cops_audit.specs.SoFar.{HaveSourcesOrWait}
 use Rattle.cops_types.specs.declared.versioned_put.VersionedPut.{VersionedPut}
-use Rattle.cops_audit.specs.declared.notes.Note.{Note}
-use Rattle.cops_audit.specs.declared.notes.Seen.{Seen}
-use Rattle.cops_audit.specs.declared.notes.Seen.TheVariants.{Put, Got, Missed, Sourceless}
+use Rattle.cops_audit.specs.declared.summaries.Summary.{Summary}
+use Rattle.cops_audit.specs.declared.summaries.OpPlace.{OpPlace}
+use Rattle.cops_audit.specs.declared.summaries.OpPlace.TheVariants.{Put, Got, Missed, Sourceless}
 use Rattle.cops_audit.specs.Tables.{IsPutTable, IsVersionTable}
-use Rattle.cops_audit.specs.Notes.{above, IsNoted, IsSeen, StandsAt, note_at}
+use Rattle.cops_audit.specs.Summaries.{above, IsSummarized, IsSeen, StandsAt, summary_at}
 use Rattle.cops_audit.specs.Windows.{NoneWithin}
-use Rattle.cops_audit.proofs.Noting.{note_there}
+use Rattle.cops_audit.proofs.Noting.{summary_there}
 use Rattle.cops_audit.proofs.PastMarks.{mark_is, past_mark}
 use Rattle.cops_audit.proofs.Places.{place_of_put, same_place}
 use Rattle.cops_audit.proofs.Reading.{missed_gets_nothing, missed_puts_nothing, says, seen_get, seen_put}
@@ -30,38 +30,38 @@ pub none_then : {A P Q : Type 0} (o : Option A) → IfNone o P → (P → Q) →
 none_then None p f = f p
 none_then (Some x) p f = tt
 
-seen_missed : (h : Sessions) (table : List VersionedPut) (n : OpName) (k : List ℕ) (seen : Seen) → IsSeen h table n seen → IsMissed h n k → seen ≡ Missed
+seen_missed : (h : Sessions) (table : List VersionedPut) (n : OpName) (k : List ℕ) (seen : OpPlace) → IsSeen h table n seen → IsMissed h n k → seen ≡ Missed
 seen_missed h table n k (Put p) s missed = absurd (missed_puts_nothing h n k s.0 missed s.1)
 seen_missed h table n k (Got p) s missed = absurd (missed_gets_nothing h n k s.1 missed s.3)
 seen_missed h table n k Missed s missed = refl
 seen_missed h table n k (Sourceless p) s missed = absurd (missed_gets_nothing h n k s.0.version missed (s.0.key, s.0.content, s.0.got))
 
-module _ (h : Sessions) (table : List VersionedPut) (t : IsVersionTable h table) (notes : List (List Note)) (noted : IsNoted h table notes) (sources : HaveSourcesOrWait h) (above_all : AllAbove h) (op : OpName) where
+module _ (h : Sessions) (table : List VersionedPut) (t : IsVersionTable h table) (summaries : List (List Summary)) (summarized : IsSummarized h table summaries) (sources : HaveSourcesOrWait h) (above_all : AllAbove h) (op : OpName) where
   -- a put in the past of an operation is below its mark
-  pub below_mark : (note : Note) → note_at notes op ≡ Some note → (q : OpName) (w : ℕ) (f : IsNewer h op q w) (place : ℕ) → StandsAt table place q w → place < note.mark
-  below_mark note at q w f place stands_q =
-      let there = note_there h table notes noted q (_, f.put.1) in
-      let put = seen_put h table q w there.0.seen (says h table t notes noted q there.0 there.1) (f.key, f.put.0, f.put.1) in
+  pub below_mark : (summary : Summary) → summary_at summaries op ≡ Some summary → (q : OpName) (w : ℕ) (f : IsNewer h op q w) (place : ℕ) → StandsAt table place q w → place < summary.mark
+  below_mark summary at q w f place stands_q =
+      let there = summary_there h table summaries summarized q (_, f.put.1) in
+      let put = seen_put h table q w there.0.seen (says h table t summaries summarized q there.0 there.1) (f.key, f.put.0, f.put.1) in
       let same : put.0 ≡ place = same_place table t.rising put.0 place q q w put.2 stands_q in
       let high : above there.0.seen ≡ put.0 + 1 = ap above put.1 in
-      let own : above there.0.seen ≤ there.0.mark = mark_is h table t notes noted sources above_all q there.0 there.1 in
-      let le : there.0.mark ≤ note.mark = past_mark h table t notes noted sources above_all q f.past there.0 note there.1 at in
+      let own : above there.0.seen ≤ there.0.mark = mark_is h table t summaries summarized sources above_all q there.0 there.1 in
+      let le : there.0.mark ≤ summary.mark = past_mark h table t summaries summarized sources above_all q f.past there.0 summary there.1 at in
       omega (arith, same, high, own, le)
 
-  pub clear : (note : Note) → note_at notes op ≡ Some note → NoneWithin h table op note.mark → (q : OpName) (w : ℕ) → ¬ IsNewer h op q w
-  clear note at none q w f =
+  pub clear : (summary : Summary) → summary_at summaries op ≡ Some summary → NoneWithin h table op summary.mark → (q : OpName) (w : ℕ) → ¬ IsNewer h op q w
+  clear summary at none q w f =
       let place = stands_for h table t.table q w (f.key, f.put.0, f.put.1) in
-      omega (arith, below_mark note at q w f place.0 place.1, none place.0 q w place.1 (f.key, f.put, f.returned))
+      omega (arith, below_mark summary at q w f place.0 place.1, none place.0 q w place.1 (f.key, f.put, f.returned))
 
   -- an operation that is no get is not stale
-  pub no_get : (note : Note) → note_at notes op ≡ Some note → ((p : ℕ) → ¬ (note.seen ≡ Got p)) → ((p : ℕ) → ¬ (note.seen ≡ Sourceless p)) → ¬ (note.seen ≡ Missed) → (q : OpName) (w : ℕ) → ¬ IsNewer h op q w
-  no_get note at not_got not_sourceless not_missed q w f = elim f.returned [
-    | inl g ↦ elim (seen_get h table op g.1 note.seen (says h table t notes noted op note at) (f.key, g.0, g.2)) [ inl r ↦ not_got r.0 r.1 | inr r ↦ not_sourceless r.0 r.1 ]
-    | inr missed ↦ not_missed (seen_missed h table op f.key note.seen (says h table t notes noted op note at) missed)
+  pub no_get : (summary : Summary) → summary_at summaries op ≡ Some summary → ((p : ℕ) → ¬ (summary.seen ≡ Got p)) → ((p : ℕ) → ¬ (summary.seen ≡ Sourceless p)) → ¬ (summary.seen ≡ Missed) → (q : OpName) (w : ℕ) → ¬ IsNewer h op q w
+  no_get summary at not_got not_sourceless not_missed q w f = elim f.returned [
+    | inl g ↦ elim (seen_get h table op g.1 summary.seen (says h table t summaries summarized op summary at) (f.key, g.0, g.2)) [ inl r ↦ not_got r.0 r.1 | inr r ↦ not_sourceless r.0 r.1 ]
+    | inr missed ↦ not_missed (seen_missed h table op f.key summary.seen (says h table t summaries summarized op summary at) missed)
   ]
 
-  pub no_note : note_at notes op ≡ None → (q : OpName) (w : ℕ) → ¬ IsNewer h op q w
-  no_note none q w f = elim f.returned [
-    | inl g ↦ let there = note_there h table notes noted op (_, g.2) in let e : Some there.0 ≡ None = sym there.1 ∙ none in cc
-    | inr missed ↦ let there = note_there h table notes noted op (_, missed) in let e : Some there.0 ≡ None = sym there.1 ∙ none in cc
+  pub no_summary : summary_at summaries op ≡ None → (q : OpName) (w : ℕ) → ¬ IsNewer h op q w
+  no_summary none q w f = elim f.returned [
+    | inl g ↦ let there = summary_there h table summaries summarized op (_, g.2) in let e : Some there.0 ≡ None = sym there.1 ∙ none in cc
+    | inr missed ↦ let there = summary_there h table summaries summarized op (_, missed) in let e : Some there.0 ≡ None = sym there.1 ∙ none in cc
   ]

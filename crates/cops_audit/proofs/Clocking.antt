@@ -6,15 +6,15 @@ use Rattle.std.proofs.lemmas.Bool.{cases_order}
 use Rattle.std.proofs.lemmas.List.{get_or-set_same, get_or-set_other}
 use Rattle.cops_types.specs.declared.op.OpName.{OpName}
 use Rattle.cops_types.specs.declared.versioned_put.VersionedPut.{VersionedPut}
-use Rattle.cops_audit.specs.declared.notes.Note.{Note}
-use Rattle.cops_audit.specs.declared.notes.Seen.{Seen}
-use Rattle.cops_audit.specs.declared.notes.Seen.TheVariants.{Put, Got}
+use Rattle.cops_audit.specs.declared.summaries.Summary.{Summary}
+use Rattle.cops_audit.specs.declared.summaries.OpPlace.{OpPlace}
+use Rattle.cops_audit.specs.declared.summaries.OpPlace.TheVariants.{Put, Got}
 use Rattle.cops_audit.specs.declared.clocks.Known.{Known}
 use Rattle.cops_audit.specs.declared.clocks.Clocks.{Clocks}
 use Rattle.cops_audit.specs.Clocks.{AreClocks, AreKnown, IsKnown, Knows, KnowsPut}
-use Rattle.cops_audit.specs.Notes.{note_at}
+use Rattle.cops_audit.specs.Summaries.{summary_at}
 use Rattle.cops_audit.specs.Sweeps as sweep
-use Rattle.cops_audit.specs.Sweeps.{AreRising, Counted, NotePast}
+use Rattle.cops_audit.specs.Sweeps.{AreRising, Counted, SummaryPast}
 use Rattle.cops_audit.proofs.Learning.{one_put_at}
 use Rattle.cops_audit.proofs.Linking.{written}
 use Rattle.cops_audit.proofs.Marks.{slice_get_push}
@@ -37,34 +37,34 @@ set_raised counts i x inside le k = elim (cases_order k i) [
       omega (arith, a)
 ]
 
-module _ (table : List VersionedPut) (notes : List (List Note)) where
-  pub knows_none : (counts : List ℕ) (client : ℕ) → Knows table notes counts client 0
+module _ (table : List VersionedPut) (summaries : List (List Summary)) where
+  pub knows_none : (counts : List ℕ) (client : ℕ) → Knows table summaries counts client 0
   knows_none counts client = record { own = λ i less. absurd (omega (arith, less)); past = λ n i less p. absurd (omega (arith, less)) }
 
-  pub knows_more : (old new : List ℕ) (client count : ℕ) → ((k : ℕ) → slice_index old k ≤ slice_index new k) → Knows table notes old client count → Knows table notes new client count
+  pub knows_more : (old new : List ℕ) (client count : ℕ) → ((k : ℕ) → slice_index old k ≤ slice_index new k) → Knows table summaries old client count → Knows table summaries new client count
   knows_more old new client count kept k = record { own = λ i less. counted_more old new kept _ (k.own i less); past = λ n i less p. counted_more old new kept n (k.past n i less p) }
 
-  pub knows_fewer : (counts : List ℕ) (client more fewer : ℕ) → fewer ≤ more → Knows table notes counts client more → Knows table notes counts client fewer
+  pub knows_fewer : (counts : List ℕ) (client more fewer : ℕ) → fewer ≤ more → Knows table summaries counts client more → Knows table summaries counts client fewer
   knows_fewer counts client more fewer le k = record { own = λ i less. k.own i (omega (arith, less, le)); past = λ n i less p. k.past n i (omega (arith, less, le)) p }
 
   -- one more operation, whose source is included where it has one
-  module _ (counts : List ℕ) (client count : ℕ) (k : Knows table notes counts client count) (here : Counted counts (record { client = client; index = count }))
-      (source : (place mark : ℕ) → note_at notes (record { client = client; index = count }) ≡ Some (record { seen = Got place; mark = mark }) → KnowsPut table notes counts place) where
-    to_here : (n to : OpName) → to ≡ record { client = client; index = count } → NotePast table notes n to → Counted counts n
+  module _ (counts : List ℕ) (client count : ℕ) (k : Knows table summaries counts client count) (here : Counted counts (record { client = client; index = count }))
+      (source : (place mark : ℕ) → summary_at summaries (record { client = client; index = count }) ≡ Some (record { seen = Got place; mark = mark }) → KnowsPut table summaries counts place) where
+    to_here : (n to : OpName) → to ≡ record { client = client; index = count } → SummaryPast table summaries n to → Counted counts n
     to_here n to same (sweep.step (inl s)) =
         let c : n.client ≡ client = s.0 ∙ ap (λ (x : OpName). x.client) same in
         let i : to.index ≡ count = ap (λ (x : OpName). x.index) same in
         subst (λ (x : ℕ). n.index < slice_index counts x) (sym c) (k.own n.index (omega (arith, s.1, i)))
     to_here n to same (sweep.step (inr s)) =
-        (source s.0 s.2 (sym (ap (note_at notes) same) ∙ s.4) n s.1 s.3).own n.index (omega arith)
+        (source s.0 s.2 (sym (ap (summary_at summaries) same) ∙ s.4) n s.1 s.3).own n.index (omega arith)
     to_here n to same (sweep.more {by = by} p (inl s)) =
         let c : by.client ≡ client = s.0 ∙ ap (λ (x : OpName). x.client) same in
         let i : to.index ≡ count = ap (λ (x : OpName). x.index) same in
-        k.past n by.index (omega (arith, s.1, i)) (subst (λ (x : ℕ). NotePast table notes n (record { client = x; index = by.index })) c p)
+        k.past n by.index (omega (arith, s.1, i)) (subst (λ (x : ℕ). SummaryPast table summaries n (record { client = x; index = by.index })) c p)
     to_here n to same (sweep.more {by = by} p (inr s)) =
-        (source s.0 s.2 (sym (ap (note_at notes) same) ∙ s.4) by s.1 s.3).past n by.index (omega arith) p
+        (source s.0 s.2 (sym (ap (summary_at summaries) same) ∙ s.4) by s.1 s.3).past n by.index (omega arith) p
 
-    pub knows_next : Knows table notes counts client (count + 1)
+    pub knows_next : Knows table summaries counts client (count + 1)
     knows_next = record {
       own = λ i less. elim (eq-or-lt_of_le (let le : i ≤ count = omega (arith, less) in le)) [
         | inl same ↦ subst (λ (x : ℕ). Counted counts (record { client = client; index = x })) (sym same) here
@@ -77,49 +77,49 @@ module _ (table : List VersionedPut) (notes : List (List Note)) where
     }
 
   -- one entry of a list of counts is overwritten
-  pub known_written : (all : List Known) (i : ℕ) (x : Known) → AreKnown table notes all → IsKnown table notes x → AreKnown table notes (slice_set all i x)
+  pub known_written : (all : List Known) (i : ℕ) (x : Known) → AreKnown table summaries all → IsKnown table summaries x → AreKnown table summaries (slice_set all i x)
   known_written all i x are is j y at = elim (written all i j x y at) [
-    | inl here ↦ subst (IsKnown table notes) here.1 is
+    | inl here ↦ subst (IsKnown table summaries) here.1 is
     | inr other ↦ are j y other.1
   ]
 
   -- one entry is appended to a list of counts
-  pub known_pushed : (all : List Known) (x : Known) → AreKnown table notes all → IsKnown table notes x → AreKnown table notes (all ++ x ∷ [])
+  pub known_pushed : (all : List Known) (x : Known) → AreKnown table summaries all → IsKnown table summaries x → AreKnown table summaries (all ++ x ∷ [])
   known_pushed all x are is j y at = elim (slice_get_push all x y j at) [
     | inl old ↦ are j y old
-    | inr last ↦ subst (IsKnown table notes) last.1 is
+    | inr last ↦ subst (IsKnown table summaries) last.1 is
   ]
 
 -- the clock of one session is overwritten
-module _ (table : List VersionedPut) (notes : List (List Note)) (c : Clocks) (are : AreClocks table notes c) (client : ℕ) (inside : client < length c.known.items) where
+module _ (table : List VersionedPut) (summaries : List (List Summary)) (c : Clocks) (are : AreClocks table summaries c) (client : ℕ) (inside : client < length c.known.items) where
   -- a session's clock now includes what a put knows of
-  pub learned : (new : Clocks) (own : Vec ℕ Global) (told : List ℕ) (place : ℕ) → new ≡ record c { known = new.known } → new.known.items ≡ slice_set c.known.items client own
+  pub learned : (new : Clocks) (own : Vec ℕ Global) (reported : List ℕ) (place : ℕ) → new ≡ record c { known = new.known } → new.known.items ≡ slice_set c.known.items client own
       → ((k : ℕ) → slice_index (slice_index_or (map (λ v. v.items) c.known.items) client []) k ≤ slice_index own.items k) → length own.items ≡ length (slice_index_or (map (λ v. v.items) c.known.items) client [])
-      → ((k : ℕ) → slice_index told k ≤ slice_index own.items k) → KnowsPut table notes told place
-      → AreClocks table notes new × KnowsPut table notes (slice_index_or (map (λ v. v.items) new.known.items) client []) place
-  learned new own told place same written kept len raised knows = (
+      → ((k : ℕ) → slice_index reported k ≤ slice_index own.items k) → KnowsPut table summaries reported place
+      → AreClocks table summaries new × KnowsPut table summaries (slice_index_or (map (λ v. v.items) new.known.items) client []) place
+  learned new own reported place same written kept len raised knows = (
     record {
       passed_width = ap (λ (x : Clocks). length x.passed.items) same ∙ are.passed_width;
       known_count = ap length written ∙ length-set c.known.items client own ∙ are.known_count;
-      passed = λ k. subst (λ (p : List ℕ). Knows table notes p k (slice_index p k)) (sym passed_same) (are.passed k);
+      passed = λ k. subst (λ (p : List ℕ). Knows table summaries p k (slice_index p k)) (sym passed_same) (are.passed k);
       known_width = λ k less. elim (cases_order k client) [
         | inl e ↦
-            subst (λ (n : ℕ). length (slice_index_or (map (λ v. v.items) new.known.items) n []) ≡ length notes) (sym e)
+            subst (λ (n : ℕ). length (slice_index_or (map (λ v. v.items) new.known.items) n []) ≡ length summaries) (sym e)
             (ap length here ∙ len ∙ are.known_width client (omega (arith, less, e)))
         | inr other ↦ ap length (there k (λ e. elim other [ inl l ↦ omega (arith, l, e) | inr m ↦ omega (arith, m, e) ])) ∙ are.known_width k less
       ];
-      known = λ k less. subst (λ (p : List ℕ). Knows table notes (slice_index_or (map (λ v. v.items) new.known.items) k []) k (slice_index p k)) (sym passed_same) (elim (cases_order k client) [
+      known = λ k less. subst (λ (p : List ℕ). Knows table summaries (slice_index_or (map (λ v. v.items) new.known.items) k []) k (slice_index p k)) (sym passed_same) (elim (cases_order k client) [
         | inl e ↦
-            subst (λ (n : ℕ). Knows table notes (slice_index_or (map (λ v. v.items) new.known.items) n []) n (slice_index c.passed.items n)) (sym e)
-            (subst (λ (l : List ℕ). Knows table notes l client (slice_index c.passed.items client)) (sym here)
-            (knows_more table notes _ own.items client (slice_index c.passed.items client) kept (are.known client (omega (arith, less, e)))))
+            subst (λ (n : ℕ). Knows table summaries (slice_index_or (map (λ v. v.items) new.known.items) n []) n (slice_index c.passed.items n)) (sym e)
+            (subst (λ (l : List ℕ). Knows table summaries l client (slice_index c.passed.items client)) (sym here)
+            (knows_more table summaries _ own.items client (slice_index c.passed.items client) kept (are.known client (omega (arith, less, e)))))
         | inr other ↦
-            subst (λ (l : List ℕ). Knows table notes l k (slice_index c.passed.items k)) (sym (there k (λ e. elim other [ inl l ↦ omega (arith, l, e) | inr m ↦ omega (arith, m, e) ]))) (are.known k less)
+            subst (λ (l : List ℕ). Knows table summaries l k (slice_index c.passed.items k)) (sym (there k (λ e. elim other [ inl l ↦ omega (arith, l, e) | inr m ↦ omega (arith, m, e) ]))) (are.known k less)
       ]);
-      recent = subst (λ (x : Clocks). AreKnown table notes x.recent.items) (sym same) are.recent;
-      stages = subst (λ (x : Clocks). AreKnown table notes x.stages.items) (sym same) are.stages;
+      recent = subst (λ (x : Clocks). AreKnown table summaries x.recent.items) (sym same) are.recent;
+      checkpoints = subst (λ (x : Clocks). AreKnown table summaries x.checkpoints.items) (sym same) are.checkpoints;
     },
-    (λ put version stands. subst (λ (l : List ℕ). Knows table notes l put.client (put.index + 1)) (sym here) (knows_more table notes told own.items put.client (put.index + 1) raised (knows put version stands))),
+    (λ put version stands. subst (λ (l : List ℕ). Knows table summaries l put.client (put.index + 1)) (sym here) (knows_more table summaries reported own.items put.client (put.index + 1) raised (knows put version stands))),
   )
     where
       passed_same : new.passed.items ≡ c.passed.items
@@ -135,35 +135,35 @@ module _ (table : List VersionedPut) (notes : List (List Note)) (c : Clocks) (ar
   pub counted : (new : Clocks) (own : Vec ℕ Global) (count : ℕ) → new ≡ record c { passed = new.passed; known = new.known } → new.known.items ≡ slice_set c.known.items client own
       → ((k : ℕ) → slice_index (slice_index_or (map (λ v. v.items) c.known.items) client []) k ≤ slice_index own.items k) → length own.items ≡ length (slice_index_or (map (λ v. v.items) c.known.items) client [])
       → slice_index c.passed.items client + 1 ≡ count → count ≤ slice_index own.items client → new.passed.items ≡ slice_set c.passed.items client count
-      → ((place mark : ℕ) → note_at notes (record { client = client; index = slice_index c.passed.items client }) ≡ Some (record { seen = Got place; mark = mark })
-      → KnowsPut table notes (slice_index_or (map (λ v. v.items) c.known.items) client []) place × KnowsPut table notes c.passed.items place)
-      → AreClocks table notes new
+      → ((place mark : ℕ) → summary_at summaries (record { client = client; index = slice_index c.passed.items client }) ≡ Some (record { seen = Got place; mark = mark })
+      → KnowsPut table summaries (slice_index_or (map (λ v. v.items) c.known.items) client []) place × KnowsPut table summaries c.passed.items place)
+      → AreClocks table summaries new
   counted new own count same written kept len next high passed source = record {
     passed_width = ap length passed ∙ length-set c.passed.items client count ∙ are.passed_width;
     known_count = ap length written ∙ length-set c.known.items client own ∙ are.known_count;
     passed = λ k. elim (cases_order k client) [
-      | inl e ↦ subst (λ (n : ℕ). Knows table notes new.passed.items n (slice_index new.passed.items n)) (sym e) (subst (Knows table notes new.passed.items client) (sym now) all_passed)
+      | inl e ↦ subst (λ (n : ℕ). Knows table summaries new.passed.items n (slice_index new.passed.items n)) (sym e) (subst (Knows table summaries new.passed.items client) (sym now) all_passed)
       | inr other ↦
-          subst (Knows table notes new.passed.items k) (sym (still k (λ e. elim other [ inl l ↦ omega (arith, l, e) | inr m ↦ omega (arith, m, e) ])))
-          (knows_more table notes c.passed.items new.passed.items k (slice_index c.passed.items k) rises (are.passed k))
+          subst (Knows table summaries new.passed.items k) (sym (still k (λ e. elim other [ inl l ↦ omega (arith, l, e) | inr m ↦ omega (arith, m, e) ])))
+          (knows_more table summaries c.passed.items new.passed.items k (slice_index c.passed.items k) rises (are.passed k))
     ];
     known_width = λ k less. elim (cases_order k client) [
       | inl e ↦
-          subst (λ (n : ℕ). length (slice_index_or (map (λ v. v.items) new.known.items) n []) ≡ length notes) (sym e)
+          subst (λ (n : ℕ). length (slice_index_or (map (λ v. v.items) new.known.items) n []) ≡ length summaries) (sym e)
           (ap length here ∙ len ∙ are.known_width client (omega (arith, less, e)))
       | inr other ↦ ap length (there k (λ e. elim other [ inl l ↦ omega (arith, l, e) | inr m ↦ omega (arith, m, e) ])) ∙ are.known_width k less
     ];
     known = λ k less. elim (cases_order k client) [
       | inl e ↦
-          subst (λ (n : ℕ). Knows table notes (slice_index_or (map (λ v. v.items) new.known.items) n []) n (slice_index new.passed.items n)) (sym e)
-          (subst (λ (l : List ℕ). Knows table notes l client (slice_index new.passed.items client)) (sym here) (subst (Knows table notes own.items client) (sym now) own_knows))
+          subst (λ (n : ℕ). Knows table summaries (slice_index_or (map (λ v. v.items) new.known.items) n []) n (slice_index new.passed.items n)) (sym e)
+          (subst (λ (l : List ℕ). Knows table summaries l client (slice_index new.passed.items client)) (sym here) (subst (Knows table summaries own.items client) (sym now) own_knows))
       | inr other ↦
           let differs : k ≢ client = λ e. elim other [ inl l ↦ omega (arith, l, e) | inr m ↦ omega (arith, m, e) ] in
-          subst (λ (l : List ℕ). Knows table notes l k (slice_index new.passed.items k)) (sym (there k differs))
-          (subst (Knows table notes (slice_index_or (map (λ v. v.items) c.known.items) k []) k) (sym (still k differs)) (are.known k less))
+          subst (λ (l : List ℕ). Knows table summaries l k (slice_index new.passed.items k)) (sym (there k differs))
+          (subst (Knows table summaries (slice_index_or (map (λ v. v.items) c.known.items) k []) k) (sym (still k differs)) (are.known k less))
     ];
-    recent = subst (λ (x : Clocks). AreKnown table notes x.recent.items) (sym same) are.recent;
-    stages = subst (λ (x : Clocks). AreKnown table notes x.stages.items) (sym same) are.stages;
+    recent = subst (λ (x : Clocks). AreKnown table summaries x.recent.items) (sym same) are.recent;
+    checkpoints = subst (λ (x : Clocks). AreKnown table summaries x.checkpoints.items) (sym same) are.checkpoints;
   }
     where
       in_passed : client < length c.passed.items
@@ -186,40 +186,40 @@ module _ (table : List VersionedPut) (notes : List (List Note)) (c : Clocks) (ar
       there : (k : ℕ) → k ≢ client → slice_index_or (map (λ v. v.items) new.known.items) k [] ≡ slice_index_or (map (λ v. v.items) c.known.items) k []
       there k differs = ap (λ (l : List (Vec ℕ Global)). slice_index_or (map (λ v. v.items) l) k []) written ∙ set_other (λ (v : Vec ℕ Global). v.items) [] c.known.items client k own differs
 
-      all_passed : Knows table notes new.passed.items client (slice_index c.passed.items client + 1)
+      all_passed : Knows table summaries new.passed.items client (slice_index c.passed.items client + 1)
       all_passed =
-          knows_next table notes new.passed.items client (slice_index c.passed.items client) (knows_more table notes c.passed.items new.passed.items client (slice_index c.passed.items client) rises (are.passed client)) (omega (arith, now))
-          (λ place mark at put version stands. knows_more table notes c.passed.items new.passed.items put.client (put.index + 1) rises ((source place mark at).1 put version stands))
+          knows_next table summaries new.passed.items client (slice_index c.passed.items client) (knows_more table summaries c.passed.items new.passed.items client (slice_index c.passed.items client) rises (are.passed client)) (omega (arith, now))
+          (λ place mark at put version stands. knows_more table summaries c.passed.items new.passed.items put.client (put.index + 1) rises ((source place mark at).1 put version stands))
 
-      own_knows : Knows table notes own.items client (slice_index c.passed.items client + 1)
+      own_knows : Knows table summaries own.items client (slice_index c.passed.items client + 1)
       own_knows =
-          knows_next table notes own.items client (slice_index c.passed.items client)
-          (knows_more table notes _ own.items client (slice_index c.passed.items client) kept (are.known client (omega (arith, inside, are.known_count)))) (omega (arith, next, high))
-          (λ place mark at put version stands. knows_more table notes _ own.items put.client (put.index + 1) kept ((source place mark at).0 put version stands))
+          knows_next table summaries own.items client (slice_index c.passed.items client)
+          (knows_more table summaries _ own.items client (slice_index c.passed.items client) kept (are.known client (omega (arith, inside, are.known_count)))) (omega (arith, next, high))
+          (λ place mark at put version stands. knows_more table summaries _ own.items put.client (put.index + 1) kept ((source place mark at).0 put version stands))
 
 -- an operation is counted after its session's clock includes what it saw
-module _ (table : List VersionedPut) (notes : List (List Note)) (client index : ℕ) (note : Note) (noted : note_at notes (record { client = client; index = index }) ≡ Some note) where
-  one_note : (place mark : ℕ) → note_at notes (record { client = client; index = index }) ≡ Some (record { seen = Got place; mark = mark }) → note.seen ≡ Got place
-  one_note place mark at = let e : Some note ≡ Some (let x : Note = record { seen = Got place; mark = mark } in x) = sym noted ∙ at in let f : note ≡ record { seen = Got place; mark = mark } = cc in ap (λ (x : Note). x.seen) f
+module _ (table : List VersionedPut) (summaries : List (List Summary)) (client index : ℕ) (summary : Summary) (summarized : summary_at summaries (record { client = client; index = index }) ≡ Some summary) where
+  one_summary : (place mark : ℕ) → summary_at summaries (record { client = client; index = index }) ≡ Some (record { seen = Got place; mark = mark }) → summary.seen ≡ Got place
+  one_summary place mark at = let e : Some summary ≡ Some (let x : Summary = record { seen = Got place; mark = mark } in x) = sym summarized ∙ at in let f : summary ≡ record { seen = Got place; mark = mark } = cc in ap (λ (x : Summary). x.seen) f
 
   pub counts_seen : (old new : Clocks) → index ≡ slice_index old.passed.items client
-      → (AreClocks table notes old → ((place mark : ℕ) → note_at notes (record { client = client; index = slice_index old.passed.items client }) ≡ Some (record { seen = Got place; mark = mark })
-      → KnowsPut table notes (slice_index_or (map (λ v. v.items) old.known.items) client []) place × KnowsPut table notes old.passed.items place) → AreClocks table notes new)
-      → AreClocks table notes old × ((place : ℕ) → note.seen ≡ Got place → KnowsPut table notes (slice_index_or (map (λ v. v.items) old.known.items) client []) place × KnowsPut table notes old.passed.items place)
-      → AreClocks table notes new
+      → (AreClocks table summaries old → ((place mark : ℕ) → summary_at summaries (record { client = client; index = slice_index old.passed.items client }) ≡ Some (record { seen = Got place; mark = mark })
+      → KnowsPut table summaries (slice_index_or (map (λ v. v.items) old.known.items) client []) place × KnowsPut table summaries old.passed.items place) → AreClocks table summaries new)
+      → AreClocks table summaries old × ((place : ℕ) → summary.seen ≡ Got place → KnowsPut table summaries (slice_index_or (map (λ v. v.items) old.known.items) client []) place × KnowsPut table summaries old.passed.items place)
+      → AreClocks table summaries new
   counts_seen old new same counts learned =
       counts learned.0
-      (λ place mark at. learned.1 place (one_note place mark (ap (λ (i : ℕ). note_at notes (record { client = client; index = i })) same ∙ at)))
+      (λ place mark at. learned.1 place (one_summary place mark (ap (λ (i : ℕ). summary_at summaries (record { client = client; index = i })) same ∙ at)))
 
   -- the clock that is kept for a passed put is its session's
-  pub put_known : AreRising table notes → (clocks : Clocks) → AreClocks table notes clocks → client < length notes → slice_index clocks.passed.items client ≡ index + 1 → (place : ℕ) → note.seen ≡ Put place
-      → (counts : List ℕ) → counts ≡ slice_index_or (map (λ v. v.items) clocks.known.items) client [] → (length counts ≡ length notes) × KnowsPut table notes counts place
+  pub put_known : AreRising table summaries → (clocks : Clocks) → AreClocks table summaries clocks → client < length summaries → slice_index clocks.passed.items client ≡ index + 1 → (place : ℕ) → summary.seen ≡ Put place
+      → (counts : List ℕ) → counts ≡ slice_index_or (map (λ v. v.items) clocks.known.items) client [] → (length counts ≡ length summaries) × KnowsPut table summaries counts place
   put_known rising clocks are inside next place is counts same = (
     ap length same ∙ are.known_width client inside,
     λ put version stands.
         let name : OpName = record { client = client; index = index } in
-        let own = rising.seen_puts name place note.mark (noted ∙ ap (λ (s : Seen). Some (let x : Note = record { seen = s; mark = note.mark } in x)) is) in
+        let own = rising.seen_puts name place summary.mark (summarized ∙ ap (λ (s : OpPlace). Some (let x : Summary = record { seen = s; mark = summary.mark } in x)) is) in
         let one : name ≡ put = one_put_at table place name put own.0 version own.1 stands in
-        subst (λ (n : OpName). Knows table notes counts n.client (n.index + 1)) one
-        (subst (λ (l : List ℕ). Knows table notes l client (index + 1)) (sym same) (subst (Knows table notes _ client) next (are.known client inside))),
+        subst (λ (n : OpName). Knows table summaries counts n.client (n.index + 1)) one
+        (subst (λ (l : List ℕ). Knows table summaries l client (index + 1)) (sym same) (subst (Knows table summaries _ client) next (are.known client inside))),
   )

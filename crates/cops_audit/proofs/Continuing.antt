@@ -68,10 +68,10 @@ module _ (h longer : Sessions) (continues : Continues h longer) where
       let f = m.2 in
       let got = continues m.0 _ f.gets.2 in
       let s = source_of longer accepted.sources m.0 f.gets.0 f.gets.1 f.version got in
-      let bears = source_version longer s.0 m.0 f.gets.0 f.gets.1 f.version s.1 got in
+      let has_version = source_version longer s.0 m.0 f.gets.0 f.gets.1 f.version s.1 got in
       elim (name_cases m.1 s.0) [
         | inl same ↦ f.no_source (source_was m.1 m.0 f.version f.version f.puts f.gets (subst (λ p. SourceStep longer p m.0) (sym same) s.1))
-        | inr differs ↦ accepted.doubled s.0 (record { version = f.version; put = bears; other = m.1; other_put = puts_stay m.1 f.version f.puts; differs = differs })
+        | inr differs ↦ accepted.doubled s.0 (record { version = f.version; put = has_version; other = m.1; other_put = puts_stay m.1 f.version f.puts; differs = differs })
       ]
 
 -- no get waits in an accepted history
@@ -84,8 +84,8 @@ sources_there : (h : Sessions) → ¬ HasLastingFault h → ((n : OpName) → ¬
 sources_there h no_fault none_waiting n f = none_waiting n (record {
   version = f.version;
   gets = (f.key, f.content, f.got);
-  none = λ put bears.
-      no_fault (inr (inr (inr (n, put, record { version = f.version; gets = (f.key, f.content, f.got); puts = bears; no_source = f.none put }))));
+  none = λ put has_version.
+      no_fault (inr (inr (inr (n, put, record { version = f.version; gets = (f.key, f.content, f.got); puts = has_version; no_source = f.none put }))));
 })
 
 -- the only verdict on a clean history is acceptance

@@ -34,9 +34,9 @@ is_same-refl a b e = both {p = eqb a.client b.client} {q = eqb a.index b.index} 
 apart : (a b : OpName) → is_same a b ≡ false → a ≢ b
 apart a b test same = let other = is_same-refl a b same in cc
 
-tells : (a b : OpName) → a ≢ b → is_same a b ≡ false
+reports : (a b : OpName) → a ≢ b → is_same a b ≡ false
 unfolding is_same
-tells a b differ = by_cases (eqb_tells a.client b.client) (eqb_tells a.index b.index)
+reports a b differ = by_cases (eqb_tells a.client b.client) (eqb_tells a.index b.index)
   where
     by_cases : ((eqb a.client b.client ≡ true) × (a.client ≡ b.client)) ⊎ ((eqb a.client b.client ≡ false) × (a.client ≢ b.client))
         → ((eqb a.index b.index ≡ true) × (a.index ≡ b.index)) ⊎ ((eqb a.index b.index ≡ false) × (a.index ≢ b.index)) → (eqb a.client b.client && eqb a.index b.index) ≡ false
@@ -53,4 +53,4 @@ pub names_differ : {A : Type 0} (name_of : A → OpName) (xs ys : List A) → Is
 names_differ name_of xs ys permutation differ = λ i j d less inside.
     apart (name_of (get_or ys i d)) (name_of (get_or ys j d))
     (still_apart (λ x y. is_same (name_of x) (name_of y)) (λ x y. is_same-comm (name_of x) (name_of y)) xs ys permutation
-    (λ a b e l n. tells (name_of (get_or xs a e)) (name_of (get_or xs b e)) (differ a b e l n)) i j d less inside)
+    (λ a b e l n. reports (name_of (get_or xs a e)) (name_of (get_or xs b e)) (differ a b e l n)) i j d less inside)

@@ -5,7 +5,7 @@ use Rattle.cops_types.specs.declared.op.OpName.{OpName}
 use Rattle.cops_types.specs.declared.versioned_put.VersionedPut.{VersionedPut}
 use Rattle.cops_types.specs.Recorded.{Recorded}
 use Rattle.cops_types.specs.VersionOrder.{IsDoubled}
-use Rattle.cops_audit.specs.Tables.{AreDoubledPuts, TellDoubled}
+use Rattle.cops_audit.specs.Tables.{AreDoubledPuts, ReportDoubled}
 use Rattle.cops_audit.proofs.Collect.{get_or-default}
 use Rattle.cops_audit.proofs.Marks.{slice_get_inside}
 
@@ -14,16 +14,16 @@ abbrev pub NamedBelow : List VersionedPut → ℕ → OpName → Type 0
 NamedBelow xs k name = (i : ℕ) × (i < k) × ((d : VersionedPut) → (slice_index_or xs i d).name ≡ name)
 
 -- which of the names at these numbers are among the first k puts
-abbrev pub TellBelow : List OpName → List VersionedPut → ℕ → List Bool → Type 0
-TellBelow puts xs k flags = (n : ℕ) (name : OpName) → slice_get puts n ≡ Some name → (slice_index_or flags n false ≡ true) ↔ NamedBelow xs k name
+abbrev pub ReportBelow : List OpName → List VersionedPut → ℕ → List Bool → Type 0
+ReportBelow puts xs k flags = (n : ℕ) (name : OpName) → slice_get puts n ≡ Some name → (slice_index_or flags n false ≡ true) ↔ NamedBelow xs k name
 
 module _ (puts : List OpName) (xs : List VersionedPut) (k : ℕ) (inside : k < length xs) (x : VersionedPut) (is : x ≡ slice_index_or xs k x) (m : ℕ) (at : slice_get puts m ≡ Some x.name)
-    (only : (n : ℕ) → slice_get puts n ≡ Some x.name → n ≡ m) (flags : List Bool) (len : length flags ≡ length puts) (told : TellBelow puts xs k flags) where
+    (only : (n : ℕ) → slice_get puts n ≡ Some x.name → n ≡ m) (flags : List Bool) (len : length flags ≡ length puts) (reported : ReportBelow puts xs k flags) where
   named_here : (d : VersionedPut) → (slice_index_or xs k d).name ≡ x.name
   named_here d = ap (λ (p : VersionedPut). p.name) (get_or-default xs k d x inside ∙ sym is)
 
-  pub tell_more : TellBelow puts xs (k + 1) (slice_set flags m true)
-  tell_more n name named = elim (cases_eq n m) [
+  pub report_more : ReportBelow puts xs (k + 1) (slice_set flags m true)
+  report_more n name named = elim (cases_eq n m) [
     | inl same ↦
         let both : Some x.name ≡ Some name = sym at ∙ ap (slice_get puts) (sym same) ∙ named in
         let one : x.name ≡ name = cc in
@@ -32,7 +32,7 @@ module _ (puts : List OpName) (xs : List VersionedPut) (k : ℕ) (inside : k < l
         ((λ _. (k, omega arith, λ d. named_here d ∙ one)), (λ _. set))
     | inr differs ↦
         let kept = get_or-set_other flags m n true false differs in
-        let before = told n name named in (
+        let before = reported n name named in (
           (λ f. let w = before.0 (sym kept ∙ f) in (w.0, omega (arith, w.1), w.2)),
           (λ w. elim (cases_eq w.0 k) [
             | inl last ↦
@@ -44,12 +44,12 @@ module _ (puts : List OpName) (xs : List VersionedPut) (k : ℕ) (inside : k < l
   ]
 
 -- after the last put, all doubled puts are marked
-pub tell_all : (r : Recorded) (xs : List VersionedPut) (k : ℕ) (flags : List Bool) → k ≡ length xs → AreDoubledPuts r.sessions xs → length flags ≡ length r.puts → TellBelow r.puts xs k flags
-    → TellDoubled r flags
-tell_all r xs k flags whole are len told = record {
+pub report_all : (r : Recorded) (xs : List VersionedPut) (k : ℕ) (flags : List Bool) → k ≡ length xs → AreDoubledPuts r.sessions xs → length flags ≡ length r.puts → ReportBelow r.puts xs k flags
+    → ReportDoubled r flags
+report_all r xs k flags whole are len reported = record {
   whole = len;
   each = λ number put at.
-      let t = told number put at in (
+      let t = reported number put at in (
         (λ f.
             let w = t.0 f in
             let none : VersionedPut = record { version = 0; name = put } in

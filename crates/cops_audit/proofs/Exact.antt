@@ -11,7 +11,7 @@ use Rattle.cops_audit.proofs.Acyclic.{VersionsRise, one_version, irreflexive, pa
 use Rattle.cops_audit.proofs.Firsts.{versions_rise, none_newer}
 use Rattle.cops_audit.proofs.Reach.{Mem}
 use Rattle.cops_audit.proofs.Members.{names_of, is_named}
-use Rattle.cops_audit.proofs.PastOrder.{past_order, precedes_past, past_precedes, past_joined, source_test, source_told, source_passes}
+use Rattle.cops_audit.proofs.PastOrder.{past_order, precedes_past, past_precedes, past_joined, source_test, source_reported, source_passes}
 
 -- a place in a list, and that the list has the element
 place_of : {A : Type 0} (xs : List A) (x : A) → Contains xs x → (i : ℕ) × (slice_get xs i ≡ Some x)
@@ -56,7 +56,7 @@ find_source h got (n ∷ ns) = by_test (source_test (op_at h n) (op_at h got)) r
         → ((s : OpName) × SourceStep h s got) ⊎ ((s : OpName) → Mem s ns → ¬ SourceStep h s got)
         → ((s : OpName) × SourceStep h s got) ⊎ ((s : OpName) → Mem s (n ∷ ns) → ¬ SourceStep h s got)
     by_test true e rest =
-        let t = source_told (op_at h n) (op_at h got) (sym e) in
+        let t = source_reported (op_at h n) (op_at h got) (sym e) in
         inl (n, record { key = t.0; content = t.1; version = t.2; put = t.3; got = t.4 })
     by_test false e (inl found) = inl found
     by_test false e (inr none) = inr (λ s there is_source. elim there [
@@ -112,7 +112,7 @@ module _ (h : Sessions) (names : List OpName) (accepted : IsAccepted h names) wh
         source = s.0;
         is_source = s.1;
         last = λ q w on_key other before.
-            let bears : PutsVersion h q w = (key, on_key.0, on_key.1) in
+            let has_version : PutsVersion h q w = (key, on_key.0, on_key.1) in
             let not_above : ¬ (version < w) = λ less. none_newer h accepted.stale got q w (record {
               key = key;
               put = on_key;
@@ -123,10 +123,10 @@ module _ (h : Sessions) (names : List OpName) (accepted : IsAccepted h names) wh
               version = version;
               put = put;
               other = q;
-              other_put = subst (PutsVersion h q) (sym e) bears;
+              other_put = subst (PutsVersion h q) (sym e) has_version;
               differs = other;
             }) in
-            lower_before h names accepted.version_order q s.0 w version bears put (omega (arith, not_above, not_same));
+            lower_before h names accepted.version_order q s.0 w version has_version put (omega (arith, not_above, not_same));
       }
 
   pub converges : ConvergesBy h names
@@ -193,9 +193,9 @@ module _ (h : Sessions) (names : List OpName) (by_version : IsVersionOrder h nam
       by_cases (inl got) =
           let r = explains.got n f.key got.0 got.1 got.2 in
           let put = source_version h r.source n f.key got.0 got.1 r.is_source got.2 in
-          let bears : PutsVersion h q w = (f.key, f.put.0, f.put.1) in
-          let other : q ≢ r.source = λ e. omega (arith, got.3, one_version h q r.source w got.1 bears put e) in
-          omega (arith, got.3, by_version.rising q r.source w got.1 (r.last q w f.put other before) bears put)
+          let has_version : PutsVersion h q w = (f.key, f.put.0, f.put.1) in
+          let other : q ≢ r.source = λ e. omega (arith, got.3, one_version h q r.source w got.1 has_version put e) in
+          omega (arith, got.3, by_version.rising q r.source w got.1 (r.last q w f.put other before) has_version put)
 
 pub accepted_where : (h : Sessions) (names : List OpName) → NoneDoubled h → IsVersionOrder h names → ConvergesBy h names → IsAccepted h names
 accepted_where h names single by_version c = record {

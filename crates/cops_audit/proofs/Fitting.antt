@@ -5,11 +5,11 @@ use Rattle.std.proofs.Math.ListN.{length-set}
 use Rattle.std.proofs.lemmas.Bool.{cases_order}
 use Rattle.std.proofs.lemmas.List.Sums.{sum_by-set, sum_by-cons}
 use Rattle.cops_types.specs.declared.op.OpName.{OpName}
-use Rattle.cops_audit.specs.declared.notes.Note.{Note}
-use Rattle.cops_audit.specs.declared.sweep.Range.{Range}
+use Rattle.cops_audit.specs.declared.summaries.Summary.{Summary}
+use Rattle.cops_audit.specs.declared.sweep.OpRange.{OpRange}
 use Rattle.cops_audit.specs.declared.sweep.Sweep.{Sweep}
 use Rattle.cops_types.specs.declared.versioned_put.VersionedPut.{VersionedPut}
-use Rattle.cops_audit.specs.Notes.{note_at}
+use Rattle.cops_audit.specs.Summaries.{summary_at}
 use Rattle.cops_audit.specs.Sweeps.{AreRising, Covers, HasRoom}
 use Rattle.cops_audit.proofs.Marks.{slice_get_inside}
 
@@ -61,8 +61,8 @@ pub room_same : (space : ℕ) (lengths : List ℕ) (old new : Sweep) → new.cou
     → HasRoom space lengths old → HasRoom space lengths new
 room_same space lengths old new counts newest pending room =
     let sum : sum_by (λ n. n) new.counts ≡ sum_by (λ n. n) old.counts = ap (sum_by (λ n. n)) counts in
-    let len : vec_len new.pending ≡ vec_len old.pending = ap (λ (v : Vec Range Global). vec_len v) pending in
-    let capacity : vec_capacity new.pending ≡ vec_capacity old.pending = ap (λ (v : Vec Range Global). vec_capacity v) pending in
+    let len : vec_len new.pending ≡ vec_len old.pending = ap (λ (v : Vec OpRange Global). vec_len v) pending in
+    let capacity : vec_capacity new.pending ≡ vec_capacity old.pending = ap (λ (v : Vec OpRange Global). vec_capacity v) pending in
     record {
       width = ap length counts ∙ room.width;
       within = λ c. let e : get_or new.counts c 0 ≡ get_or old.counts c 0 = ap (λ (l : List ℕ). get_or l c 0) counts in omega (arith, e, room.within c);
@@ -93,11 +93,11 @@ length_at (x ∷ xs) zero = refl
 length_at (x ∷ xs) (suc i) = length_at xs i
 
 -- an operation with a summary is in its session
-pub noted_inside : (notes : List (List Note)) (name : OpName) (note : Note) → note_at notes name ≡ Some note → name.index < get_or (map length notes) name.client 0
-noted_inside notes name note at = omega (arith, slice_get_inside (slice_index_or notes name.client []) name.index note at, length_at notes name.client)
+pub summarized_inside : (summaries : List (List Summary)) (name : OpName) (summary : Summary) → summary_at summaries name ≡ Some summary → name.index < get_or (map length summaries) name.client 0
+summarized_inside summaries name summary at = omega (arith, slice_get_inside (slice_index_or summaries name.client []) name.index summary at, length_at summaries name.client)
 
-pub covered : (table : List VersionedPut) (notes : List (List Note)) → AreRising table notes → Covers (map length notes) table
-covered table notes rising place put version stands = let there = rising.puts place put version stands in noted_inside notes put _ there.1
+pub covered : (table : List VersionedPut) (summaries : List (List Summary)) → AreRising table summaries → Covers (map length summaries) table
+covered table summaries rising place put version stands = let there = rising.puts place put version stands in summarized_inside summaries put _ there.1
 
 -- an error is not `Ok`
 pub no_ok : {A : Type 0} → false ≡ true → A

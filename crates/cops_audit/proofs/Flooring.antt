@@ -8,13 +8,13 @@ use Rattle.std.proofs.lemmas.List.{length-replicate}
 use Rattle.cops_types.specs.declared.op.OpName.{OpName}
 use Rattle.cops_types.specs.Faults.{IsBefore}
 use Rattle.cops_types.specs.declared.versioned_put.VersionedPut.{VersionedPut}
-use Rattle.cops_audit.specs.declared.notes.Note.{Note}
-use Rattle.cops_audit.specs.declared.sweep.Range.{Range}
+use Rattle.cops_audit.specs.declared.summaries.Summary.{Summary}
+use Rattle.cops_audit.specs.declared.sweep.OpRange.{OpRange}
 use Rattle.cops_audit.specs.declared.sweep.Sweep.{Sweep}
 use Rattle.cops_audit.specs.declared.window.Suspect.{Suspect}
-use Rattle.cops_audit.specs.Notes.{note_at}
+use Rattle.cops_audit.specs.Summaries.{summary_at}
 use Rattle.cops_audit.specs.Sweeps.{Counted, HasRoom, IsAbout, IsFresh, IsSweeping, more}
-use Rattle.cops_audit.specs.Floors.{AreFloors, IsAfter, IsNotedSuspect}
+use Rattle.cops_audit.specs.Floors.{AreFloors, IsAfter, IsSummarizedSuspect}
 use Rattle.cops_audit.proofs.Closing.{none_in_nothing}
 use Rattle.cops_audit.proofs.Collect.{get_or-default}
 
@@ -65,14 +65,14 @@ zero_at zero i = refl
 zero_at (suc n) zero = refl
 zero_at (suc n) (suc i) = zero_at n i
 
-module _ (table : List VersionedPut) (notes : List (List Note)) (firsts : List ℕ) (floor : ℕ) where
+module _ (table : List VersionedPut) (summaries : List (List Summary)) (firsts : List ℕ) (floor : ℕ) where
   nothing_counted : (clients puts : ℕ) (s : Sweep) → IsFresh clients puts s → (n : OpName) → ¬ Counted s.counts n
   nothing_counted clients puts s fresh n there =
       let e : get_or s.counts n.client 0 ≡ get_or (replicate clients 0) n.client 0 = ap (λ (l : List ℕ). get_or l n.client 0) fresh.counts in
       omega (arith, there, e, zero_at clients n.client)
 
   -- a sweep in which nothing is counted
-  pub fresh_sweeping : (clients puts : ℕ) (s : Sweep) → IsFresh clients puts s → clients ≡ length notes → length table ≤ puts → IsSweeping table notes firsts floor s (λ _. ⊥)
+  pub fresh_sweeping : (clients puts : ℕ) (s : Sweep) → IsFresh clients puts s → clients ≡ length summaries → length table ≤ puts → IsSweeping table summaries firsts floor s (λ _. ⊥)
   fresh_sweeping clients puts s fresh c p = record {
     clients = ap length fresh.counts ∙ length-replicate {A = ℕ} clients 0 ∙ c;
     places = let e : length s.newest ≡ length (replicate {A = ℕ} puts 0) = ap length fresh.newest in omega (arith, e, length-replicate {A = ℕ} puts 0, p);
@@ -84,12 +84,12 @@ module _ (table : List VersionedPut) (notes : List (List Note)) (firsts : List �
     learned = λ n x there at high. absurd (nothing_counted clients puts s fresh n there);
   }
 
-  pub fresh_about : (clients puts : ℕ) (s : Sweep) (op : OpName) → IsFresh clients puts s → IsAbout table notes s op
+  pub fresh_about : (clients puts : ℕ) (s : Sweep) (op : OpName) → IsFresh clients puts s → IsAbout table summaries s op
   fresh_about clients puts s op fresh n there = absurd (nothing_counted clients puts s fresh n there)
 
 -- what a sweep knows with a floor it knows with a higher floor
-pub higher_floor : (table : List VersionedPut) (notes : List (List Note)) (firsts : List ℕ) (low high : ℕ) (s : Sweep) → low ≤ high → IsSweeping table notes firsts low s (λ _. ⊥) → IsSweeping table notes firsts high s (λ _. ⊥)
-higher_floor table notes firsts low high s le was = record {
+pub higher_floor : (table : List VersionedPut) (summaries : List (List Summary)) (firsts : List ℕ) (low high : ℕ) (s : Sweep) → low ≤ high → IsSweeping table summaries firsts low s (λ _. ⊥) → IsSweeping table summaries firsts high s (λ _. ⊥)
+higher_floor table summaries firsts low high s le was = record {
   clients = was.clients;
   places = was.places;
   newest = was.newest;
@@ -99,29 +99,29 @@ higher_floor table notes firsts low high s le was = record {
 }
 
 -- what is in the past of an operation is in the past of the later ones of its session
-pub later_about : (table : List VersionedPut) (notes : List (List Note)) (s : Sweep) (a b : OpName) (note : Note) → a.client ≡ b.client → a.index < b.index → note_at notes b ≡ Some note → IsAbout table notes s a → IsAbout table notes s b
-later_about table notes s a b note same less at about n there = more (about n there) (inl (same, less, note, at))
+pub later_about : (table : List VersionedPut) (summaries : List (List Summary)) (s : Sweep) (a b : OpName) (summary : Summary) → a.client ≡ b.client → a.index < b.index → summary_at summaries b ≡ Some summary → IsAbout table summaries s a → IsAbout table summaries s b
+later_about table summaries s a b summary same less at about n there = more (about n there) (inl (same, less, summary, at))
 
 -- the next suspect of a client, where the sweep has come as far as the one before
-module _ (table : List VersionedPut) (notes : List (List Note)) (firsts : List ℕ) (suspects : List Suspect) (floors : List ℕ) (are : AreFloors suspects floors) (in_order : AllPairs (λ s t. IsBefore s.op t.op) suspects)
+module _ (table : List VersionedPut) (summaries : List (List Summary)) (firsts : List ℕ) (suspects : List Suspect) (floors : List ℕ) (are : AreFloors suspects floors) (in_order : AllPairs (λ s t. IsBefore s.op t.op) suspects)
     (k : ℕ) (inside : k < length suspects) (some : 0 < k) (same : (d : Suspect) → (get_or suspects (k - 1) d).op.client ≡ (get_or suspects k d).op.client) (s : Sweep)
-    (after : IsAfter table notes firsts suspects floors k s) where
+    (after : IsAfter table summaries firsts suspects floors k s) where
   before_k : k - 1 + 1 ≡ k
   before_k = omega (arith, some)
 
-  pub next_sweeping : (d : Suspect) → IsSweeping table notes firsts (get_or floors k 0) s (λ _. ⊥)
+  pub next_sweeping : (d : Suspect) → IsSweeping table summaries firsts (get_or floors k 0) s (λ _. ⊥)
   next_sweeping d =
       let at_k : get_or floors (k - 1 + 1) 0 ≡ get_or floors k 0 = ap (λ (j : ℕ). get_or floors j 0) before_k in
       let clients : (get_or suspects (k - 1) d).op.client ≡ (get_or suspects (k - 1 + 1) d).op.client = same d ∙ ap (λ (j : ℕ). (get_or suspects j d).op.client) (sym before_k) in
       let le = are.rising (k - 1) d (omega (arith, before_k, inside)) clients in
-      higher_floor table notes firsts (get_or floors (k - 1) 0) (get_or floors k 0) s (omega (arith, le, at_k)) (after.sweeping (k - 1) before_k)
+      higher_floor table summaries firsts (get_or floors (k - 1) 0) (get_or floors k 0) s (omega (arith, le, at_k)) (after.sweeping (k - 1) before_k)
 
-  pub next_about : (d : Suspect) → IsNotedSuspect notes (get_or suspects k d) → IsAbout table notes s (get_or suspects k d).op
-  next_about d noted =
+  pub next_about : (d : Suspect) → IsSummarizedSuspect summaries (get_or suspects k d) → IsAbout table summaries s (get_or suspects k d).op
+  next_about d summarized =
       let a = (get_or suspects (k - 1) d).op in
       let b = (get_or suspects k d).op in
       let less : IsBefore a b = in_order (k - 1) k d (omega (arith, some)) inside in
-      later_about table notes s a b noted.note (same d) (index_less a b (same d) less) noted.at (after.about (k - 1) d before_k)
+      later_about table summaries s a b summarized.summary (same d) (index_less a b (same d) less) summarized.at (after.about (k - 1) d before_k)
     where
       index_less : (a b : OpName) → a.client ≡ b.client → IsBefore a b → a.index < b.index
       index_less a b e (inl less) = absurd (omega (arith, e, less))
@@ -144,7 +144,7 @@ pub room_again : (space : ℕ) (lengths : List ℕ) (clients puts : ℕ) (old ne
     → IsFresh clients puts new → new.pending ≡ old.pending → HasRoom space lengths old → HasRoom space lengths new
 room_again space lengths clients puts old new same width fresh pending room =
     let none : length new.pending.items ≡ 0 = ap length fresh.pending in
-    let capacity : vec_capacity new.pending ≡ vec_capacity old.pending = ap (λ (v : Vec Range Global). vec_capacity v) pending in
+    let capacity : vec_capacity new.pending ≡ vec_capacity old.pending = ap (λ (v : Vec OpRange Global). vec_capacity v) pending in
     record {
       width = ap length fresh.counts ∙ length-replicate {A = ℕ} clients 0 ∙ same ∙ room.width;
       within = λ c. let e : get_or new.counts c 0 ≡ get_or (replicate clients 0) c 0 = ap (λ (l : List ℕ). get_or l c 0) fresh.counts in omega (arith, e, zero_at clients c);

@@ -7,7 +7,7 @@ use Rattle.cops_types.specs.Operations.{GetsVersion}
 use Rattle.cops_types.specs.Faults.{HasNoSource}
 use Rattle.cops_types.specs.declared.versioned_put.VersionedPut.{VersionedPut}
 use Rattle.cops_audit.specs.Tables.{IsVersionTable}
-use Rattle.cops_audit.specs.Notes.{Divides, StandsAt}
+use Rattle.cops_audit.specs.Summaries.{Divides, StandsAt}
 use Rattle.cops_audit.proofs.Places.{inside_table, place_for, place_of_put, same_put_at, version_at, version_rises}
 
 -- a get has one version

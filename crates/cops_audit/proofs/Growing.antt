@@ -9,12 +9,12 @@ use Rattle.std.proofs.lemmas.List.Folds.{sum_by-replicate}
 use Rattle.std.proofs.lemmas.List.Sums.{sum_by-cons, sum_by-set}
 use Rattle.cops_types.specs.Histories.{Sessions, with_op, Operation}
 use Rattle.cops_types.specs.Counts.{count_of}
-use Rattle.cops_audit.specs.declared.notes.Note.{Note}
-use Rattle.cops_audit.specs.declared.room.Room.{Room}
-use Rattle.cops_audit.specs.declared.sweep.Range.{Range}
+use Rattle.cops_audit.specs.declared.summaries.Summary.{Summary}
+use Rattle.cops_audit.specs.declared.room.Scratch.{Scratch}
+use Rattle.cops_audit.specs.declared.sweep.OpRange.{OpRange}
 use Rattle.cops_audit.specs.declared.sweep.Sweep.{Sweep}
 use Rattle.cops_types.specs.declared.versioned_put.VersionedPut.{VersionedPut}
-use Rattle.cops_audit.specs.Notes.{Flat, IsNoted}
+use Rattle.cops_audit.specs.Summaries.{Flat, IsSummarized}
 use Rattle.cops_audit.specs.Rooms.{Fits, HasSpace, IsReady, IsSameButSpace}
 use Rattle.cops_audit.specs.Sweeps.{HasRoom, IsFresh, IsIdle}
 use Rattle.cops_audit.proofs.Bridging.{past_end}
@@ -35,7 +35,7 @@ module _ (h : Sessions) (client : ℕ) (op : Operation) (inside : client < lengt
   clients_same : length (with_op h client op) ≡ length h
   clients_same = length-set h client (own ++ op ∷ [])
 
-  pub fits_more : (room : Room) (flat : Flat) → Fits h room flat → count_of h + 1 ≤ room.space → Fits (with_op h client op) room flat
+  pub fits_more : (room : Scratch) (flat : Flat) → Fits h room flat → count_of h + 1 ≤ room.space → Fits (with_op h client op) room flat
   fits_more room flat fits enough = record {
     ready = record {
       space = fits.ready.space;
@@ -44,13 +44,13 @@ module _ (h : Sessions) (client : ℕ) (op : Operation) (inside : client < lengt
       empty = fits.ready.empty;
     };
     sessions = omega (arith, fits.sessions, clients_same);
-    notes = fits.notes;
+    summaries = fits.summaries;
   }
 
 -- the same room with no less capacity
-pub fits_on : (h : Sessions) (old new : Room) (notes more : Flat) → Fits h old notes → HasSpace new.space new → old.space ≤ new.space → IsSameButSpace old new
-    → new.space ≤ more.note_room → more.session_room ≡ notes.session_room → Fits h new more
-fits_on h old new notes more fits space higher but room sessions = record {
+pub fits_on : (h : Sessions) (old new : Scratch) (summaries more : Flat) → Fits h old summaries → HasSpace new.space new → old.space ≤ new.space → IsSameButSpace old new
+    → new.space ≤ more.summary_room → more.session_room ≡ summaries.session_room → Fits h new more
+fits_on h old new summaries more fits space higher but room sessions = record {
   ready = record {
     space = space;
     enough = omega (arith, fits.ready.enough, higher);
@@ -58,7 +58,7 @@ fits_on h old new notes more fits space higher but room sessions = record {
     empty = but.empty fits.ready.empty;
   };
   sessions = omega (arith, fits.sessions, sessions);
-  notes = room;
+  summaries = room;
 }
 
 -- what holds where it succeeds, where it is no error
@@ -67,11 +67,11 @@ succeeded (Ok x) P p e = p
 succeeded (Err x) P p e = absurd cc
 
 -- there is a summary for each operation
-as_long : (h : Sessions) (table : List VersionedPut) (notes : List (List Note)) → IsNoted h table notes
-    → (c : ℕ) → length (slice_index_or notes c []) ≡ length (slice_index_or h c [])
-as_long h table notes noted c = elim (cases_lt c (length h)) [
-  | inl inside ↦ (noted.sessions c inside).whole
-  | inr le ↦ ap length (past_end notes c [] (omega (arith, le, noted.clients))) ∙ sym (ap length (past_end h c [] le))
+as_long : (h : Sessions) (table : List VersionedPut) (summaries : List (List Summary)) → IsSummarized h table summaries
+    → (c : ℕ) → length (slice_index_or summaries c []) ≡ length (slice_index_or h c [])
+as_long h table summaries summarized c = elim (cases_lt c (length h)) [
+  | inl inside ↦ (summarized.sessions c inside).whole
+  | inr le ↦ ap length (past_end summaries c [] (omega (arith, le, summarized.clients))) ∙ sym (ap length (past_end h c [] le))
 ]
 
 -- there are as many summaries as operations
@@ -82,20 +82,20 @@ sum_same (x ∷ xs) [] len each = absurd (omega (arith, len))
 sum_same (x ∷ xs) (y ∷ ys) len each =
     omega (arith, each 0, sum_same xs ys (omega (arith, len)) (λ i. each (suc i)), sum_by-cons (λ (n : ℕ). n) (length x) (map length xs), sum_by-cons length y ys)
 
-count_notes : (h : Sessions) (table : List VersionedPut) (notes : List (List Note)) → IsNoted h table notes → sum_by (λ n. n) (map length notes) ≡ count_of h
-count_notes h table notes noted = sum_same notes h noted.clients (as_long h table notes noted)
+count_summaries : (h : Sessions) (table : List VersionedPut) (summaries : List (List Summary)) → IsSummarized h table summaries → sum_by (λ n. n) (map length summaries) ≡ count_of h
+count_summaries h table summaries summarized = sum_same summaries h summarized.clients (as_long h table summaries summarized)
 
 -- a sweep in which nothing is counted has capacity for the history that its room fits
-module _ (h : Sessions) (room : Room) (ready : IsReady h room) (sweep : Sweep)
+module _ (h : Sessions) (room : Scratch) (ready : IsReady h room) (sweep : Sweep)
     (fresh : IsFresh (length room.sweep.counts) (length room.sweep.newest) sweep) (pending : sweep.pending ≡ room.sweep.pending) where
-  pub fresh_room : (notes : List (List Note)) → IsNoted h room.table.items notes → HasRoom room.space (map length notes) sweep
-  fresh_room notes noted =
-      let sum = count_notes h room.table.items notes noted in
+  pub fresh_room : (summaries : List (List Summary)) → IsSummarized h room.table.items summaries → HasRoom room.space (map length summaries) sweep
+  fresh_room summaries summarized =
+      let sum = count_summaries h room.table.items summaries summarized in
       let none : length sweep.pending.items ≡ 0 = ap length fresh.pending in
-      let capacity : vec_capacity sweep.pending ≡ vec_capacity room.sweep.pending = ap (λ (v : Vec Range Global). vec_capacity v) pending in
+      let capacity : vec_capacity sweep.pending ≡ vec_capacity room.sweep.pending = ap (λ (v : Vec OpRange Global). vec_capacity v) pending in
       let newest : length sweep.newest ≡ length (replicate {A = ℕ} (length room.sweep.newest) 0) = ap length fresh.newest in
       record {
-        width = ap length fresh.counts ∙ length-replicate {A = ℕ} (length room.sweep.counts) 0 ∙ ready.counts ∙ sym noted.clients ∙ sym (length-map notes length);
+        width = ap length fresh.counts ∙ length-replicate {A = ℕ} (length room.sweep.counts) 0 ∙ ready.counts ∙ sym summarized.clients ∙ sym (length-map summaries length);
         within = λ c. let e : get_or sweep.counts c 0 ≡ get_or (replicate (length room.sweep.counts) 0) c 0 = ap (λ (l : List ℕ). get_or l c 0) fresh.counts in omega (arith, e, zero_at (length room.sweep.counts) c);
         few = omega (arith, sum, ready.enough);
         whole = omega (arith, capacity, ready.space.pending);

@@ -5,10 +5,10 @@ use Rattle.cops_types.specs.Histories.{Sessions, IsNamed, PutsVersion, SourceSte
 use Rattle.cops_types.specs.Faults.{HasNoSource, Lists}
 use Rattle.cops_types.specs.Verdicts.{AllAbove, NoneStale}
 use Rattle.cops_types.specs.VersionOrder.{NoneDoubled}
-use Rattle.cops_audit.specs.declared.notes.Note.{Note}
+use Rattle.cops_audit.specs.declared.summaries.Summary.{Summary}
 use Rattle.cops_types.specs.declared.versioned_put.VersionedPut.{VersionedPut}
 use Rattle.cops_audit.specs.Names.{ListsAmong}
-use Rattle.cops_audit.specs.Notes.{IsNoted, IsSourceless}
+use Rattle.cops_audit.specs.Summaries.{IsSummarized, IsSourceless}
 use Rattle.cops_audit.specs.Tables.{IsVersionTable}
 use Rattle.cops_audit.specs.SoFar.{HasLastingFault, HaveSourcesOrWait, IsMismatched, IsWaiting}
 use Rattle.cops_audit.proofs.Classes.{none_doubled, sourceless_listed}
@@ -79,8 +79,8 @@ seen_names h e all = subst (Lists (λ n. n) (IsNamed h)) (sym e) all
 pub seen_table : {h : Sessions} {seen table : List VersionedPut} → seen ≡ table → IsVersionTable h table → IsVersionTable h seen
 seen_table {h} e t = subst (IsVersionTable h) (sym e) t
 
-pub seen_notes : {h : Sessions} {seen table : List VersionedPut} {notes : List (List Note)} → seen ≡ table → IsNoted h table notes → IsNoted h seen notes
-seen_notes {h} {notes = notes} e noted = subst (λ (t : List VersionedPut). IsNoted h t notes) (sym e) noted
+pub seen_summaries : {h : Sessions} {seen table : List VersionedPut} {summaries : List (List Summary)} → seen ≡ table → IsSummarized h table summaries → IsSummarized h seen summaries
+seen_summaries {h} {summaries = summaries} e summarized = subst (λ (t : List VersionedPut). IsSummarized h t summaries) (sym e) summarized
 
 -- no fault lasts, and these gets wait
 pub record Waits (h : Sessions) (gets : List OpName) : Type 0 where
@@ -88,12 +88,12 @@ pub record Waits (h : Sessions) (gets : List OpName) : Type 0 where
   pub waiting : Lists (λ n. n) (IsWaiting h) gets
 
 -- the verdict so far where the names have no lasting fault of any class, and those without a source are listed
-pub waits : {h : Sessions} {table : List VersionedPut} {notes : List (List Note)} {names same_names gets : List OpName} → Lists (λ n. n) (IsNamed h) names → IsVersionTable h table → IsNoted h table notes
+pub waits : {h : Sessions} {table : List VersionedPut} {summaries : List (List Summary)} {names same_names gets : List OpName} → Lists (λ n. n) (IsNamed h) names → IsVersionTable h table → IsSummarized h table summaries
     → ((k : ℕ) (d : OpName) → k < length names → HasNoSource h (get_or names k d) → IsWaiting h (get_or names k d))
-    → AllAbove h → NoneStale h → Lists (λ n. n) (IsNamed h) same_names → ListsAmong (λ n. n) (IsSourceless notes) same_names gets → Waits h gets
-waits {h} {table} {notes} {names} {same_names} {gets} all t noted waiting above stale same_all listed =
+    → AllAbove h → NoneStale h → Lists (λ n. n) (IsNamed h) same_names → ListsAmong (λ n. n) (IsSourceless summaries) same_names gets → Waits h gets
+waits {h} {table} {summaries} {names} {same_names} {gets} all t summarized waiting above stale same_all listed =
     let sources = all_wait all waiting in
     record {
       lasting = no_lasting_fault h (none_doubled h table t) sources above stale;
-      waiting = waiting_listed h gets (sourceless_listed h same_names same_all table t notes noted gets listed) sources;
+      waiting = waiting_listed h gets (sourceless_listed h same_names same_all table t summaries summarized gets listed) sources;
     }

@@ -3,11 +3,11 @@ use Rattle.std.proofs.Common.{◌≡◌, ◌<◌, ◌+◌, ◌-◌, ◌^◌, ℕ
 use Rattle.std.specs.Prelude.{sum_by}
 use Rattle.cops_types.specs.declared.op.OpName.{OpName}
 use Rattle.cops_types.specs.declared.versioned_put.VersionedPut.{VersionedPut}
-use Rattle.cops_audit.specs.declared.notes.Seen.{Seen}
-use Rattle.cops_audit.specs.declared.notes.Seen.TheVariants.{Put, Got}
-use Rattle.cops_audit.specs.declared.sweep.Range.{Range}
+use Rattle.cops_audit.specs.declared.summaries.OpPlace.{OpPlace}
+use Rattle.cops_audit.specs.declared.summaries.OpPlace.TheVariants.{Put, Got}
+use Rattle.cops_audit.specs.declared.sweep.OpRange.{OpRange}
 use Rattle.cops_audit.specs.declared.sweep.Sweep.{Sweep}
-use Rattle.cops_audit.specs.Notes.{StandsAt}
+use Rattle.cops_audit.specs.Summaries.{StandsAt}
 use Rattle.cops_audit.specs.Sweeps.{Counted, InSome, Learns, Raises, TakesPut}
 
 -- there is one put at a place
@@ -17,23 +17,23 @@ one_put_at table i p q v w a b =
     let r : (let x : VersionedPut = record { version = v; name = p } in x) ≡ record { version = w; name = q } = cc in
     ap (λ (x : VersionedPut). x.name) r
 
-put_place : (seen : Seen) (p q : ℕ) → seen ≡ Put p → seen ≡ Put q → p ≡ q
+put_place : (seen : OpPlace) (p q : ℕ) → seen ≡ Put p → seen ≡ Put q → p ≡ q
 put_place seen p q a b = let e : Put p ≡ Put q = sym a ∙ b in cc
 
-got_place : (seen : Seen) (p q : ℕ) → seen ≡ Got p → seen ≡ Got q → p ≡ q
+got_place : (seen : OpPlace) (p q : ℕ) → seen ≡ Got p → seen ≡ Got q → p ≡ q
 got_place seen p q a b = let e : Got p ≡ Got q = sym a ∙ b in cc
 
-put_no_got : (seen : Seen) (p q : ℕ) → seen ≡ Put p → seen ≡ Got q → ⊥
+put_no_got : (seen : OpPlace) (p q : ℕ) → seen ≡ Put p → seen ≡ Got q → ⊥
 put_no_got seen p q a b = let e : Put p ≡ Got q = sym a ∙ b in cc
 
-pub learns_put : (table : List VersionedPut) (firsts : List ℕ) (old new : Sweep) (seen : Seen) (place : ℕ) → seen ≡ Put place → new.counts ≡ old.counts → new.pending ≡ old.pending
+pub learns_put : (table : List VersionedPut) (firsts : List ℕ) (old new : Sweep) (seen : OpPlace) (place : ℕ) → seen ≡ Put place → new.counts ≡ old.counts → new.pending ≡ old.pending
     → TakesPut firsts old.newest new.newest place → Learns table firsts old new seen
 learns_put table firsts old new seen place is counts pending takes = record {
   counts = λ n there. inl (subst (λ cs. Counted cs n) counts there);
   kept = λ n there. subst (λ cs. Counted cs n) (sym counts) there;
   pending = λ n there. inl (subst (λ cs. Counted cs n) counts there);
-  still = λ n there. subst (λ (v : Vec Range Global). InSome v.items n) (sym pending) there;
-  pending_counted = λ n there. inl (subst (λ (v : Vec Range Global). InSome v.items n) pending there);
+  still = λ n there. subst (λ (v : Vec OpRange Global). InSome v.items n) (sym pending) there;
+  pending_counted = λ n there. inl (subst (λ (v : Vec OpRange Global). InSome v.items n) pending there);
   clients = ap length counts;
   places = takes.width;
   higher = takes.higher;
@@ -50,11 +50,11 @@ learns_put table firsts old new seen place is counts pending takes = record {
   };
   work =
       let a : sum_by (λ k. 2 ^ 32 - k) new.counts ≡ sum_by (λ k. 2 ^ 32 - k) old.counts = ap (sum_by (λ k. 2 ^ 32 - k)) counts in
-      let b : vec_len new.pending ≡ vec_len old.pending = ap (λ (v : Vec Range Global). vec_len v) pending in
+      let b : vec_len new.pending ≡ vec_len old.pending = ap (λ (v : Vec OpRange Global). vec_len v) pending in
       omega (arith, a, b);
 }
 
-pub learns_got : (table : List VersionedPut) (firsts : List ℕ) (old new : Sweep) (seen : Seen) (place : ℕ) (put : OpName) (version : ℕ) → seen ≡ Got place → StandsAt table place put version
+pub learns_got : (table : List VersionedPut) (firsts : List ℕ) (old new : Sweep) (seen : OpPlace) (place : ℕ) (put : OpName) (version : ℕ) → seen ≡ Got place → StandsAt table place put version
     → Raises old new put.client (put.index + 1) → Learns table firsts old new seen
 learns_got table firsts old new seen place put version is stands raises = record {
   counts = λ n there. elim (raises.counts n there) [

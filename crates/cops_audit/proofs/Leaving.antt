@@ -8,21 +8,21 @@ use Rattle.cops_types.specs.Histories.{Sessions}
 use Rattle.cops_types.specs.Faults.{IsBefore, IsNewer}
 use Rattle.cops_audit.specs.SoFar.{HaveSourcesOrWait}
 use Rattle.cops_types.specs.declared.versioned_put.VersionedPut.{VersionedPut}
-use Rattle.cops_audit.specs.declared.notes.Note.{Note}
+use Rattle.cops_audit.specs.declared.summaries.Summary.{Summary}
 use Rattle.cops_audit.specs.declared.window.Suspect.{Suspect}
 use Rattle.cops_audit.specs.Clocks.{AreCleared, IsLeft}
 use Rattle.cops_audit.specs.Keys.{AreFirsts}
 use Rattle.cops_audit.specs.Names.{ListsAmong}
-use Rattle.cops_audit.specs.Notes.{IsNoted}
+use Rattle.cops_audit.specs.Summaries.{IsSummarized}
 use Rattle.cops_audit.specs.Sweeps.{NoneFrom}
 use Rattle.cops_audit.specs.Tables.{IsVersionTable}
 use Rattle.cops_audit.specs.Windows.{AreSuspects}
-use Rattle.cops_audit.proofs.Bridging.{none_told}
+use Rattle.cops_audit.proofs.Bridging.{none_reported}
 use Rattle.cops_audit.proofs.Classes.{op_listed}
 use Rattle.cops_audit.proofs.Collect.{push_next, skip_next}
 use Rattle.cops_audit.proofs.Listing.{slice_get_there}
 use Rattle.cops_audit.proofs.Marks.{slice_get_inside}
-use Rattle.cops_audit.proofs.Telling.{ops_in_order}
+use Rattle.cops_audit.proofs.Reporting.{ops_in_order}
 
 not_itself : (n : OpName) → ¬ IsBefore n n
 not_itself n (inl less) = omega (arith, less)
@@ -63,18 +63,18 @@ module _ (suspects : List Suspect) (in_order : AllPairs (λ s t. IsBefore s.op t
         let q : Some false ≡ Some true = sym l.not_cleared ∙ ap (slice_get cleared) p ∙ is in cc)
 
 -- the suspects that are left list all names with a newer put in their past
-module _ (h : Sessions) (table : List VersionedPut) (t : IsVersionTable h table) (notes : List (List Note)) (noted : IsNoted h table notes) (sources : HaveSourcesOrWait h) (firsts : List ℕ) (first : AreFirsts h table firsts)
-    (names : List OpName) (suspects : List Suspect) (are : AreSuspects h table names suspects) (cleared : List Bool) (is : (length cleared ≡ length suspects) × AreCleared table notes firsts suspects cleared)
+module _ (h : Sessions) (table : List VersionedPut) (t : IsVersionTable h table) (summaries : List (List Summary)) (summarized : IsSummarized h table summaries) (sources : HaveSourcesOrWait h) (firsts : List ℕ) (first : AreFirsts h table firsts)
+    (names : List OpName) (suspects : List Suspect) (are : AreSuspects h table names suspects) (cleared : List Bool) (is : (length cleared ≡ length suspects) × AreCleared table summaries firsts suspects cleared)
     (left : List Suspect) (lists : ListsAmong (λ s. s.op) (IsLeft suspects cleared) (map (λ (s : Suspect). s.op) suspects) left) where
   contained : (i : ℕ) (s : Suspect) → slice_get suspects i ≡ Some s → Contains suspects s
   contained i s at = (i, slice_get_inside suspects i s at, get_or_from_slice_get suspects i s s at)
 
   still_there : (name newer : OpName) (version : ℕ) → IsNewer h name newer version → (s : Suspect) → s.op ≡ name → (at : Contains suspects s) → (b : Bool) → slice_get cleared at.0 ≡ Some b → (s : Suspect) × (s.op ≡ name) × Contains left s
-  still_there name newer version f s e at true told =
-      let none = subst (λ (x : Suspect). NoneFrom table notes firsts x.op x.first x.from) at.2 (is.1 at.0 s told) in
-      absurd (none_told h table t firsts first notes noted sources s (are.each s at).0 none newer version (subst (λ (n : OpName). IsNewer h n newer version) (sym e) f))
-  still_there name newer version f s e at false told =
-      (s, e, (lists.members s).1 (record { place = at.0; at = slice_get-get_or suspects at.0 s at.1 ∙ ap (λ (x : Suspect). Some x) at.2; not_cleared = told }, op_listed suspects s at))
+  still_there name newer version f s e at true reported =
+      let none = subst (λ (x : Suspect). NoneFrom table summaries firsts x.op x.first x.from) at.2 (is.1 at.0 s reported) in
+      absurd (none_reported h table t firsts first summaries summarized sources s (are.each s at).0 none newer version (subst (λ (n : OpName). IsNewer h n newer version) (sym e) f))
+  still_there name newer version f s e at false reported =
+      (s, e, (lists.members s).1 (record { place = at.0; at = slice_get-get_or suspects at.0 s at.1 ∙ ap (λ (x : Suspect). Some x) at.2; not_cleared = reported }, op_listed suspects s at))
 
   pub left_are : AreSuspects h table names left
   left_are = record {
@@ -82,7 +82,7 @@ module _ (h : Sessions) (table : List VersionedPut) (t : IsVersionTable h table)
     others = λ name newer version there f.
         let s = are.others name newer version there f in
         let at = s.2 in
-        let told = slice_get_there cleared at.0 (omega (arith, at.1, is.0)) in
-        still_there name newer version f s.0 s.1 at told.0 told.1;
+        let reported = slice_get_there cleared at.0 (omega (arith, at.1, is.0)) in
+        still_there name newer version f s.0 s.1 at reported.0 reported.1;
     in_order = lists.in_order;
   }

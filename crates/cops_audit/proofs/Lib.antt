@@ -22,7 +22,7 @@ pub mod Doubling
 pub mod Noting
 pub mod Flattening
 pub mod Reading
-pub mod TallyLemmas
+pub mod EpochsLemmas
 pub mod Linking
 pub mod Passing
 pub mod PastMarks
@@ -38,7 +38,7 @@ pub mod Closing
 pub mod Flooring
 pub mod Bridging
 pub mod Chaining
-pub mod Telling
+pub mod Reporting
 pub mod Classes
 pub mod Leaving
 pub mod Searching

@@ -1,8 +1,8 @@
 -- The mark of a session: what its operations saw is below it.
 use Rattle.std.proofs.Common.{◌≡◌, ◌<◌, ◌≤◌, ◌+◌, ◌⊎◌, ℕ, zero, suc, List, [], ◌∷◌, ◌++◌, length, get_or, Some, refl, sym, ◌∙◌, ap, subst, inl, inr, arith, slice_get}
 use Rattle.std.proofs.Math.Nat.{eq-or-lt_of_le}
-use Rattle.cops_audit.specs.declared.notes.Note.{Note}
-use Rattle.cops_audit.specs.Notes.{above, AreMarks, IsMark}
+use Rattle.cops_audit.specs.declared.summaries.Summary.{Summary}
+use Rattle.cops_audit.specs.Summaries.{above, AreMarks, IsMark}
 use Rattle.cops_audit.proofs.Unique.{stands}
 
 -- an element of a longer list is one before the last, or the last
@@ -27,60 +27,60 @@ slice_get_inside (y ∷ ys) zero x e = omega arith
 slice_get_inside (y ∷ ys) (suc i) x e = omega (arith, slice_get_inside ys i x e)
 
 pub mark_none : IsMark [] 0 0
-mark_none = record { bounds = λ i note less at. absurd (omega (arith, less)); reached = inl refl }
+mark_none = record { bounds = λ i summary less at. absurd (omega (arith, less)); reached = inl refl }
 
 -- one more operation leaves the marks before it as they are
-pub mark_kept : (session : List Note) (note : Note) (count mark : ℕ) → count ≤ length session → IsMark session count mark → IsMark (session ++ note ∷ []) count mark
-mark_kept session note count mark short m = record {
-  bounds = λ i x less at. elim (slice_get_push session note x i at) [ inl old ↦ m.bounds i x less old | inr new ↦ absurd (omega (arith, less, short, new.0)) ];
-  reached = elim m.reached [ inl none ↦ inl none | inr r ↦ inr (r.0, r.1, r.2, slice_get_kept session note r.1 r.0 r.3, r.4) ];
+pub mark_kept : (session : List Summary) (summary : Summary) (count mark : ℕ) → count ≤ length session → IsMark session count mark → IsMark (session ++ summary ∷ []) count mark
+mark_kept session summary count mark short m = record {
+  bounds = λ i x less at. elim (slice_get_push session summary x i at) [ inl old ↦ m.bounds i x less old | inr new ↦ absurd (omega (arith, less, short, new.0)) ];
+  reached = elim m.reached [ inl none ↦ inl none | inr r ↦ inr (r.0, r.1, r.2, slice_get_kept session summary r.1 r.0 r.3, r.4) ];
 }
 
 -- one more operation, whose place is not above the mark
-pub mark_stays : (session : List Note) (note : Note) (count mark : ℕ) → length session ≡ count → IsMark session count mark → above note.seen ≤ mark → IsMark (session ++ note ∷ []) (count + 1) mark
-mark_stays session note count mark len m low = record {
-  bounds = λ i x less at. elim (slice_get_push session note x i at) [
+pub mark_stays : (session : List Summary) (summary : Summary) (count mark : ℕ) → length session ≡ count → IsMark session count mark → above summary.seen ≤ mark → IsMark (session ++ summary ∷ []) (count + 1) mark
+mark_stays session summary count mark len m low = record {
+  bounds = λ i x less at. elim (slice_get_push session summary x i at) [
     | inl old ↦ m.bounds i x (omega (arith, slice_get_inside session i x old, len)) old
-    | inr new ↦ subst (λ (y : Note). above y.seen ≤ mark) new.1 low
+    | inr new ↦ subst (λ (y : Summary). above y.seen ≤ mark) new.1 low
   ];
-  reached = elim m.reached [ inl none ↦ inl none | inr r ↦ inr (r.0, r.1, omega (arith, r.2), slice_get_kept session note r.1 r.0 r.3, r.4) ];
+  reached = elim m.reached [ inl none ↦ inl none | inr r ↦ inr (r.0, r.1, omega (arith, r.2), slice_get_kept session summary r.1 r.0 r.3, r.4) ];
 }
 
 -- one more operation, whose place is above it
-pub mark_rises : (session : List Note) (note : Note) (count mark : ℕ) → length session ≡ count → IsMark session count mark → mark < above note.seen → IsMark (session ++ note ∷ []) (count + 1) (above note.seen)
-mark_rises session note count mark len m high = record {
-  bounds = λ i x less at. elim (slice_get_push session note x i at) [
+pub mark_rises : (session : List Summary) (summary : Summary) (count mark : ℕ) → length session ≡ count → IsMark session count mark → mark < above summary.seen → IsMark (session ++ summary ∷ []) (count + 1) (above summary.seen)
+mark_rises session summary count mark len m high = record {
+  bounds = λ i x less at. elim (slice_get_push session summary x i at) [
     | inl old ↦ omega (arith, m.bounds i x (omega (arith, slice_get_inside session i x old, len)) old, high)
-    | inr new ↦ subst (λ (y : Note). above y.seen ≤ above note.seen) new.1 (omega arith)
+    | inr new ↦ subst (λ (y : Summary). above y.seen ≤ above summary.seen) new.1 (omega arith)
   ];
-  reached = inr (count, note, omega arith, ap (slice_get (session ++ note ∷ [])) (sym len) ∙ slice_get_last session note, refl);
+  reached = inr (count, summary, omega arith, ap (slice_get (session ++ summary ∷ [])) (sym len) ∙ slice_get_last session summary, refl);
 }
 
 -- the mark of more operations is not lower
-pub mark_grows : (session : List Note) (i j m n : ℕ) → IsMark session i m → IsMark session j n → i ≤ j → m ≤ n
+pub mark_grows : (session : List Summary) (i j m n : ℕ) → IsMark session i m → IsMark session j n → i ≤ j → m ≤ n
 mark_grows session i j m n a b le = elim a.reached [
   | inl none ↦ omega (arith, none)
   | inr r ↦ omega (arith, b.bounds r.0 r.1 (omega (arith, r.2, le)) r.3, r.4)
 ]
 
 -- marks do not fall along a session
-pub marks_rise : (session : List Note) → AreMarks session → (i j : ℕ) (d : Note) → i ≤ j → j < length session → (get_or session i d).mark ≤ (get_or session j d).mark
+pub marks_rise : (session : List Summary) → AreMarks session → (i j : ℕ) (d : Summary) → i ≤ j → j < length session → (get_or session i d).mark ≤ (get_or session j d).mark
 marks_rise session marks i j d le inside =
     mark_grows session (i + 1) (j + 1) (get_or session i d).mark (get_or session j d).mark
     (marks i (get_or session i d) (stands session i d (omega (arith, le, inside)))) (marks j (get_or session j d) (stands session j d inside)) (omega (arith, le))
 
 -- where the mark first rises above a place, the operation itself raises it
-pub mark_crosses : (session : List Note) → AreMarks session → (i place : ℕ) (note : Note) → slice_get session i ≡ Some note → place < note.mark
-    → ((j : ℕ) (x : Note) → j < i → slice_get session j ≡ Some x → x.mark ≤ place) → place < above note.seen
-mark_crosses session marks i place note at high low =
-    let m = marks i note at in
+pub mark_crosses : (session : List Summary) → AreMarks session → (i place : ℕ) (summary : Summary) → slice_get session i ≡ Some summary → place < summary.mark
+    → ((j : ℕ) (x : Summary) → j < i → slice_get session j ≡ Some x → x.mark ≤ place) → place < above summary.seen
+mark_crosses session marks i place summary at high low =
+    let m = marks i summary at in
     elim m.reached [
       | inl none ↦ absurd (omega (arith, none, high))
       | inr r ↦ elim (eq-or-lt_of_le (let le : r.0 ≤ i = omega (arith, r.2) in le)) [
         | inl same ↦
-            let e : Some r.1 ≡ Some note = sym r.3 ∙ ap (slice_get session) same ∙ at in
-            let e' : r.1 ≡ note = cc in
-            let s : above r.1.seen ≡ above note.seen = ap (λ (x : Note). above x.seen) e' in
+            let e : Some r.1 ≡ Some summary = sym r.3 ∙ ap (slice_get session) same ∙ at in
+            let e' : r.1 ≡ summary = cc in
+            let s : above r.1.seen ≡ above summary.seen = ap (λ (x : Summary). above x.seen) e' in
             omega (arith, s, r.4, high)
         | inr before ↦
             let own : above r.1.seen ≤ r.1.mark = (marks r.0 r.1 r.3).bounds r.0 r.1 (omega arith) r.3 in

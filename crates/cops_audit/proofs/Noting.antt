@@ -7,94 +7,94 @@ use Rattle.std.proofs.lemmas.List.{length-map}
 use Rattle.cops_types.specs.declared.op.OpName.{OpName}
 use Rattle.cops_types.specs.Histories.{Sessions, IsNamed}
 use Rattle.cops_types.specs.declared.versioned_put.VersionedPut.{VersionedPut}
-use Rattle.cops_audit.specs.declared.notes.Note.{Note}
-use Rattle.cops_audit.specs.declared.notes.Seen.{Seen}
-use Rattle.cops_audit.specs.declared.notes.Seen.TheVariants.{Put, Got, Missed, Sourceless}
+use Rattle.cops_audit.specs.declared.summaries.Summary.{Summary}
+use Rattle.cops_audit.specs.declared.summaries.OpPlace.{OpPlace}
+use Rattle.cops_audit.specs.declared.summaries.OpPlace.TheVariants.{Put, Got, Missed, Sourceless}
 use Rattle.cops_audit.specs.Tables.{IsVersionTable}
-use Rattle.cops_audit.specs.Notes.{above, AreFrontsNoted, AreLongEnough, AreMarks, AreNoted, IsFrontNoted, IsMark, IsNoted, IsSeen, IsSessionNoted, note_at}
+use Rattle.cops_audit.specs.Summaries.{above, ArePrefixesSummarized, AreLongEnough, AreMarks, AreSummarized, IsPrefixSummarized, IsMark, IsSummarized, IsSeen, IsSessionSummarized, summary_at}
 use Rattle.cops_audit.proofs.Listing.{named_client, named_index, slice_get_there}
 use Rattle.cops_audit.proofs.Places.{inside_table}
 use Rattle.cops_audit.proofs.Unique.{stands}
 use Rattle.cops_audit.proofs.Marks.{mark_kept, mark_none, mark_rises, mark_stays, slice_get_push, slice_get_inside}
 
 -- places are below the greatest number of puts
-pub few_places : (h : Sessions) (table : List VersionedPut) → IsVersionTable h table → (name : OpName) (seen : Seen) → IsSeen h table name seen → above seen ≤ length table
+pub few_places : (h : Sessions) (table : List VersionedPut) → IsVersionTable h table → (name : OpName) (seen : OpPlace) → IsSeen h table name seen → above seen ≤ length table
 few_places h table t name (Put place) s = let l : place < length table = inside_table table place name s.0 s.2 in omega (arith, l)
 few_places h table t name (Got place) s = let l : place < length table = inside_table table place s.0 s.1 s.2 in omega (arith, l)
 few_places h table t name Missed s = omega arith
 few_places h table t name (Sourceless place) s = s.1.inside
 
 -- the summaries so far, which are `count`, with the mark
-pub record Noted (h : Sessions) (table : List VersionedPut) (client : ℕ) (session : List Note) (count mark : ℕ) : Type 0 where
+pub record Summarized (h : Sessions) (table : List VersionedPut) (client : ℕ) (session : List Summary) (count mark : ℕ) : Type 0 where
   pub whole : length session ≡ count
   pub up_to : IsMark session count mark
-  pub seen : (i : ℕ) (note : Note) → slice_get session i ≡ Some note → IsSeen h table (record { client = client; index = i }) note.seen
-  pub marks : (i : ℕ) (note : Note) → slice_get session i ≡ Some note → IsMark session (i + 1) note.mark
+  pub seen : (i : ℕ) (summary : Summary) → slice_get session i ≡ Some summary → IsSeen h table (record { client = client; index = i }) summary.seen
+  pub marks : (i : ℕ) (summary : Summary) → slice_get session i ≡ Some summary → IsMark session (i + 1) summary.mark
 
-pub one_note_more : (h : Sessions) (table : List VersionedPut) (client : ℕ) (session : List Note) (count mark : ℕ) (note : Note) → Noted h table client session count mark
-    → IsSeen h table (record { client = client; index = count }) note.seen → IsMark (session ++ note ∷ []) (count + 1) note.mark → Noted h table client (session ++ note ∷ []) (count + 1) note.mark
-one_note_more h table client session count mark note n seen new = record {
-  whole = omega (arith, length-append session (note ∷ []), n.whole);
+pub one_summary_more : (h : Sessions) (table : List VersionedPut) (client : ℕ) (session : List Summary) (count mark : ℕ) (summary : Summary) → Summarized h table client session count mark
+    → IsSeen h table (record { client = client; index = count }) summary.seen → IsMark (session ++ summary ∷ []) (count + 1) summary.mark → Summarized h table client (session ++ summary ∷ []) (count + 1) summary.mark
+one_summary_more h table client session count mark summary n seen new = record {
+  whole = omega (arith, length-append session (summary ∷ []), n.whole);
   up_to = new;
-  seen = λ i x at. elim (slice_get_push session note x i at) [
+  seen = λ i x at. elim (slice_get_push session summary x i at) [
     | inl old ↦ n.seen i x old
-    | inr last ↦ subst (λ (y : Note). IsSeen h table (record { client = client; index = i }) y.seen) last.1
-        (subst (λ (j : ℕ). IsSeen h table (record { client = client; index = j }) note.seen) (sym (last.0 ∙ n.whole)) seen)
+    | inr last ↦ subst (λ (y : Summary). IsSeen h table (record { client = client; index = i }) y.seen) last.1
+        (subst (λ (j : ℕ). IsSeen h table (record { client = client; index = j }) summary.seen) (sym (last.0 ∙ n.whole)) seen)
   ];
-  marks = λ i x at. elim (slice_get_push session note x i at) [
-    | inl old ↦ mark_kept session note (i + 1) x.mark (let l : i < length session = slice_get_inside session i x old in omega (arith, l)) (n.marks i x old)
-    | inr last ↦ subst (λ (y : Note). IsMark (session ++ note ∷ []) (i + 1) y.mark) last.1
-        (subst (λ (j : ℕ). IsMark (session ++ note ∷ []) (j + 1) note.mark) (sym (last.0 ∙ n.whole)) new)
+  marks = λ i x at. elim (slice_get_push session summary x i at) [
+    | inl old ↦ mark_kept session summary (i + 1) x.mark (let l : i < length session = slice_get_inside session i x old in omega (arith, l)) (n.marks i x old)
+    | inr last ↦ subst (λ (y : Summary). IsMark (session ++ summary ∷ []) (i + 1) y.mark) last.1
+        (subst (λ (j : ℕ). IsMark (session ++ summary ∷ []) (j + 1) summary.mark) (sym (last.0 ∙ n.whole)) new)
   ];
 }
 
-pub no_notes : (h : Sessions) (table : List VersionedPut) (client : ℕ) → Noted h table client [] 0 0
-no_notes h table client = record { whole = refl; up_to = mark_none; seen = λ i x at. absurd cc; marks = λ i x at. absurd cc }
+pub no_summaries : (h : Sessions) (table : List VersionedPut) (client : ℕ) → Summarized h table client [] 0 0
+no_summaries h table client = record { whole = refl; up_to = mark_none; seen = λ i x at. absurd cc; marks = λ i x at. absurd cc }
 
-module _ (h : Sessions) (table : List VersionedPut) (client : ℕ) (session : List Note) (count mark : ℕ) (seen : Seen) (n : Noted h table client session count mark) (is : IsSeen h table (record { client = client; index = count }) seen) where
+module _ (h : Sessions) (table : List VersionedPut) (client : ℕ) (session : List Summary) (count mark : ℕ) (seen : OpPlace) (n : Summarized h table client session count mark) (is : IsSeen h table (record { client = client; index = count }) seen) where
   -- a place above the mark raises it, and any other leaves it
-  pub raised_note : (m : ℕ) → m ≡ max mark (above seen) → Noted h table client (session ++ record { seen = seen; mark = m } ∷ []) (count + 1) m
-  raised_note m is_max =
-      one_note_more h table client session count mark (record { seen = seen; mark = m }) n is
+  pub raised_summary : (m : ℕ) → m ≡ max mark (above seen) → Summarized h table client (session ++ record { seen = seen; mark = m } ∷ []) (count + 1) m
+  raised_summary m is_max =
+      one_summary_more h table client session count mark (record { seen = seen; mark = m }) n is
       (elim (cases_lt mark (above seen)) [
         | inl high ↦ subst (λ (k : ℕ). IsMark (session ++ record { seen = seen; mark = m } ∷ []) (count + 1) k) (omega (arith, is_max, high)) (mark_rises session (record { seen = seen; mark = m }) count mark n.whole n.up_to (omega (arith, high)))
         | inr low ↦ subst (λ (k : ℕ). IsMark (session ++ record { seen = seen; mark = m } ∷ []) (count + 1) k) (omega (arith, is_max, low)) (mark_stays session (record { seen = seen; mark = m }) count mark n.whole n.up_to (omega (arith, low)))
       ])
 
 -- the mark of the last summary
-pub mark_of_last : (session : List Note) (d : Note) → AreMarks session → 0 < length session → IsMark session (length session) (get_or session (length session - 1) d).mark
+pub mark_of_last : (session : List Summary) (d : Summary) → AreMarks session → 0 < length session → IsMark session (length session) (get_or session (length session - 1) d).mark
 mark_of_last session d marks some =
     let e : length session - 1 + 1 ≡ length session = omega arith in
     subst (λ (k : ℕ). IsMark session k (get_or session (length session - 1) d).mark) e (marks (length session - 1) (get_or session (length session - 1) d) (stands session (length session - 1) d (omega (arith, some))))
 
-pub mark_of_none : (session : List Note) → length session ≡ 0 → IsMark session (length session) 0
+pub mark_of_none : (session : List Summary) → length session ≡ 0 → IsMark session (length session) 0
 mark_of_none [] e = mark_none
 mark_of_none (x ∷ xs) e = absurd (omega (arith, e))
 
 -- the summaries of a prefix of a session, with their mark
-pub front_noted : (h : Sessions) (table : List VersionedPut) (client : ℕ) (session : List Note) (count mark : ℕ) → IsFrontNoted h table client session → length session ≡ count → IsMark session (length session) mark
-    → Noted h table client session count mark
-front_noted h table client session count mark front len up_to = record { whole = len; up_to = subst (λ (k : ℕ). IsMark session k mark) len up_to; seen = front.seen; marks = front.marks }
+pub prefix_summarized : (h : Sessions) (table : List VersionedPut) (client : ℕ) (session : List Summary) (count mark : ℕ) → IsPrefixSummarized h table client session → length session ≡ count → IsMark session (length session) mark
+    → Summarized h table client session count mark
+prefix_summarized h table client session count mark front len up_to = record { whole = len; up_to = subst (λ (k : ℕ). IsMark session k mark) len up_to; seen = front.seen; marks = front.marks }
 
 -- no summaries are those of an empty prefix
-pub front_of_none : (h : Sessions) (table : List VersionedPut) (client : ℕ) (session : List Note) → session ≡ [] → IsFrontNoted h table client session
-front_of_none h table client session e = subst (IsFrontNoted h table client) (sym e) (record { within = omega arith; seen = λ i x at. absurd cc; marks = λ i x at. absurd cc })
+pub prefix_of_none : (h : Sessions) (table : List VersionedPut) (client : ℕ) (session : List Summary) → session ≡ [] → IsPrefixSummarized h table client session
+prefix_of_none h table client session e = subst (IsPrefixSummarized h table client) (sym e) (record { within = omega arith; seen = λ i x at. absurd cc; marks = λ i x at. absurd cc })
 
 -- the summary of an operation, and the session that it is in
-pub session_of : (h : Sessions) (table : List VersionedPut) (notes : List (List Note)) → IsNoted h table notes → (name : OpName) (note : Note) → note_at notes name ≡ Some note
-    → IsSessionNoted h table name.client (slice_index_or notes name.client [])
-session_of h table notes noted name note at = noted.sessions name.client (omega (arith, noted.clients, inside notes name.client name.index note at))
+pub session_of : (h : Sessions) (table : List VersionedPut) (summaries : List (List Summary)) → IsSummarized h table summaries → (name : OpName) (summary : Summary) → summary_at summaries name ≡ Some summary
+    → IsSessionSummarized h table name.client (slice_index_or summaries name.client [])
+session_of h table summaries summarized name summary at = summarized.sessions name.client (omega (arith, summarized.clients, inside summaries name.client name.index summary at))
   where
-    inside : (ss : List (List Note)) (c i : ℕ) (x : Note) → slice_get (slice_index_or ss c []) i ≡ Some x → c < length ss
+    inside : (ss : List (List Summary)) (c i : ℕ) (x : Summary) → slice_get (slice_index_or ss c []) i ≡ Some x → c < length ss
     inside [] c i x e = absurd cc
     inside (s ∷ ss) zero i x e = omega arith
     inside (s ∷ ss) (suc c) i x e = omega (arith, inside ss c i x e)
 
 -- each operation has a summary
-pub note_there : (h : Sessions) (table : List VersionedPut) (notes : List (List Note)) → IsNoted h table notes → (name : OpName) → IsNamed h name → (note : Note) × (note_at notes name ≡ Some note)
-note_there h table notes noted name named =
-    let session = noted.sessions name.client (named_client h name named) in
-    slice_get_there (slice_index_or notes name.client []) name.index (omega (arith, session.whole, named_index h name named))
+pub summary_there : (h : Sessions) (table : List VersionedPut) (summaries : List (List Summary)) → IsSummarized h table summaries → (name : OpName) → IsNamed h name → (summary : Summary) × (summary_at summaries name ≡ Some summary)
+summary_there h table summaries summarized name named =
+    let session = summarized.sessions name.client (named_client h name named) in
+    slice_get_there (slice_index_or summaries name.client []) name.index (omega (arith, session.whole, named_index h name named))
 
 -- a list with one element written
 pub set_here : {A B : Type 0} (f : A → B) (d : B) (xs : List A) (k : ℕ) (x : A) → k < length xs → get_or (map f (slice_set xs k x)) k d ≡ f x
@@ -109,32 +109,32 @@ set_other f d (y ∷ ys) zero (suc c) x differs = refl
 set_other f d (y ∷ ys) (suc k) zero x differs = refl
 set_other f d (y ∷ ys) (suc k) (suc c) x differs = set_other f d ys k c x (λ e. differs (ap suc e))
 
-module _ {A : Type 0} (f : A → List Note) (h : Sessions) (table : List VersionedPut) (xs : List A) (k : ℕ) (x : A) (inside : k < length xs) where
-  pub fronts_set : (first : ℕ) → AreFrontsNoted h table first (map f xs) → IsFrontNoted h table (first + k) (f x) → AreFrontsNoted h table first (map f (slice_set xs k x))
-  fronts_set first fronts front = record {
-    clients = omega (arith, length-map (slice_set xs k x) f, length-set xs k x, length-map xs f, fronts.clients);
+module _ {A : Type 0} (f : A → List Summary) (h : Sessions) (table : List VersionedPut) (xs : List A) (k : ℕ) (x : A) (inside : k < length xs) where
+  pub prefixes_set : (first : ℕ) → ArePrefixesSummarized h table first (map f xs) → IsPrefixSummarized h table (first + k) (f x) → ArePrefixesSummarized h table first (map f (slice_set xs k x))
+  prefixes_set first prefixes front = record {
+    clients = omega (arith, length-map (slice_set xs k x) f, length-set xs k x, length-map xs f, prefixes.clients);
     sessions = λ c less. elim (cases_order c k) [
-      | inl same ↦ subst (λ (n : ℕ). IsFrontNoted h table (first + n) (get_or (map f (slice_set xs k x)) n [])) (sym same) (subst (IsFrontNoted h table (first + k)) (sym (set_here f [] xs k x inside)) front)
+      | inl same ↦ subst (λ (n : ℕ). IsPrefixSummarized h table (first + n) (get_or (map f (slice_set xs k x)) n [])) (sym same) (subst (IsPrefixSummarized h table (first + k)) (sym (set_here f [] xs k x inside)) front)
       | inr other ↦
           let differs : c ≢ k = λ e. elim other [ inl l ↦ omega (arith, l, e) | inr m ↦ omega (arith, m, e) ] in
-          subst (IsFrontNoted h table (first + c)) (sym (set_other f [] xs k c x differs))
-          (fronts.sessions c (omega (arith, less, length-map (slice_set xs k x) f, length-set xs k x, length-map xs f)))
+          subst (IsPrefixSummarized h table (first + c)) (sym (set_other f [] xs k c x differs))
+          (prefixes.sessions c (omega (arith, less, length-map (slice_set xs k x) f, length-set xs k x, length-map xs f)))
     ];
   }
 
   pub whole_set : (first : ℕ) → AreLongEnough h first k (map f xs) → length (slice_index_or h (first + k) []) ≤ length (f x) → AreLongEnough h first (k + 1) (map f (slice_set xs k x))
   whole_set first whole here = λ c less. elim (eq-or-lt_of_le (let l : c ≤ k = omega (arith, less) in l)) [
     | inl same ↦ subst (λ (n : ℕ). length (slice_index_or h (first + n) []) ≤ length (get_or (map f (slice_set xs k x)) n [])) (sym same)
-        (subst (λ (s : List Note). length (slice_index_or h (first + k) []) ≤ length s) (sym (set_here f [] xs k x inside)) here)
-    | inr before ↦ subst (λ (s : List Note). length (slice_index_or h (first + c) []) ≤ length s) (sym (set_other f [] xs k c x (λ e. omega (arith, before, e)))) (whole c before)
+        (subst (λ (s : List Summary). length (slice_index_or h (first + k) []) ≤ length s) (sym (set_here f [] xs k x inside)) here)
+    | inr before ↦ subst (λ (s : List Summary). length (slice_index_or h (first + c) []) ≤ length s) (sym (set_other f [] xs k c x (λ e. omega (arith, before, e)))) (whole c before)
   ]
 
 -- where there are no summaries, the prefixes are empty
-pub fronts_of_none : {A : Type 0} (f : A → List Note) (h : Sessions) (table : List VersionedPut) (first : ℕ) (xs : List A) → first + length xs ≤ length h → ((k : ℕ) (d : A) → k < length xs → f (get_or xs k d) ≡ [])
-    → AreFrontsNoted h table first (map f xs)
-fronts_of_none {A = A} f h table first xs len none = record {
+pub prefixes_of_none : {A : Type 0} (f : A → List Summary) (h : Sessions) (table : List VersionedPut) (first : ℕ) (xs : List A) → first + length xs ≤ length h → ((k : ℕ) (d : A) → k < length xs → f (get_or xs k d) ≡ [])
+    → ArePrefixesSummarized h table first (map f xs)
+prefixes_of_none {A = A} f h table first xs len none = record {
   clients = omega (arith, length-map xs f, len);
-  sessions = λ k less. front_of_none h table (first + k) (get_or (map f xs) k []) (each k (omega (arith, less, length-map xs f)));
+  sessions = λ k less. prefix_of_none h table (first + k) (get_or (map f xs) k []) (each k (omega (arith, less, length-map xs f)));
 }
   where
     each : (c : ℕ) → c < length xs → get_or (map f xs) c [] ≡ []
@@ -146,20 +146,20 @@ fronts_of_none {A = A} f h table first xs len none = record {
         at (y ∷ ys) (suc k) l e = at ys k (omega (arith, l)) e
 
 -- prefixes that are long enough are the whole sessions
-pub noted_whole : {A : Type 0} (h : Sessions) (table : List VersionedPut) (first end : ℕ) (f : A → List Note) (xs : List A) → first + length xs ≡ end → AreFrontsNoted h table first (map f xs) → AreLongEnough h first (length xs) (map f xs)
-    → AreNoted h table first end (map f xs)
-noted_whole h table first end f xs count fronts whole = record {
+pub summarized_whole : {A : Type 0} (h : Sessions) (table : List VersionedPut) (first end : ℕ) (f : A → List Summary) (xs : List A) → first + length xs ≡ end → ArePrefixesSummarized h table first (map f xs) → AreLongEnough h first (length xs) (map f xs)
+    → AreSummarized h table first end (map f xs)
+summarized_whole h table first end f xs count prefixes whole = record {
   clients = omega (arith, count, length-map xs f);
   sessions = λ k less.
-      let front = fronts.sessions k less in
+      let front = prefixes.sessions k less in
       record { whole = omega (arith, front.within, whole k (omega (arith, less, length-map xs f))); seen = front.seen; marks = front.marks };
 }
 
 -- the summaries of the sessions of all clients
-pub noted_all : (h : Sessions) (table : List VersionedPut) (first end : ℕ) (notes : List (List Note)) → first ≡ 0 → end ≡ length h → AreNoted h table first end notes → IsNoted h table notes
-noted_all h table first end notes from to n = record {
+pub summarized_all : (h : Sessions) (table : List VersionedPut) (first end : ℕ) (summaries : List (List Summary)) → first ≡ 0 → end ≡ length h → AreSummarized h table first end summaries → IsSummarized h table summaries
+summarized_all h table first end summaries from to n = record {
   clients = omega (arith, n.clients, from, to);
-  sessions = λ client less. subst (λ (c : ℕ). IsSessionNoted h table c (slice_index_or notes client [])) (let e : first + client ≡ client = omega (arith, from) in e) (n.sessions client (omega (arith, less, n.clients, from, to)));
+  sessions = λ client less. subst (λ (c : ℕ). IsSessionSummarized h table c (slice_index_or summaries client [])) (let e : first + client ≡ client = omega (arith, from) in e) (n.sessions client (omega (arith, less, n.clients, from, to)));
 }
 
 pub get_low : {A : Type 0} (xs ys : List A) (k : ℕ) (d : A) → k < length xs → get_or (xs ++ ys) k d ≡ get_or xs k d
@@ -173,19 +173,19 @@ get_high (x ∷ xs) ys k zero d e = absurd (omega (arith, e))
 get_high (x ∷ xs) ys k (suc n) d e = get_high xs ys k n d (omega (arith, e))
 
 -- the summaries of the clients below one, and those of the others
-pub noted_joined : (h : Sessions) (table : List VersionedPut) (first mid end : ℕ) (low high : List (List Note)) → AreNoted h table first mid low → AreNoted h table mid end high
-    → AreNoted h table first end (low ++ high)
-noted_joined h table first mid end low high a b = record {
+pub summarized_joined : (h : Sessions) (table : List VersionedPut) (first mid end : ℕ) (low high : List (List Summary)) → AreSummarized h table first mid low → AreSummarized h table mid end high
+    → AreSummarized h table first end (low ++ high)
+summarized_joined h table first mid end low high a b = record {
   clients = omega (arith, length-append low high, a.clients, b.clients);
   sessions = λ k less. elim (cases_lt k (length low)) [
-    | inl l ↦ subst (IsSessionNoted h table (first + k)) (sym (get_low low high k [] l)) (a.sessions k l)
+    | inl l ↦ subst (IsSessionSummarized h table (first + k)) (sym (get_low low high k [] l)) (a.sessions k l)
     | inr le ↦ above k less le
   ];
 }
   where
-    above : (k : ℕ) → k < length (low ++ high) → length low ≤ k → IsSessionNoted h table (first + k) (get_or (low ++ high) k [])
+    above : (k : ℕ) → k < length (low ++ high) → length low ≤ k → IsSessionSummarized h table (first + k) (get_or (low ++ high) k [])
     above k less le =
         let j = k - length low in
         let client : mid + j ≡ first + k = omega (arith, le, a.clients) in
-        subst (IsSessionNoted h table (first + k)) (sym (get_high low high j k [] (omega (arith, le))))
-        (subst (λ (n : ℕ). IsSessionNoted h table n (get_or high j [])) client (b.sessions j (omega (arith, less, le, length-append low high))))
+        subst (IsSessionSummarized h table (first + k)) (sym (get_high low high j k [] (omega (arith, le))))
+        (subst (λ (n : ℕ). IsSessionSummarized h table n (get_or high j [])) client (b.sessions j (omega (arith, less, le, length-append low high))))

@@ -64,21 +64,21 @@ source_here : (k : List ℕ) (x : Option (List ℕ)) (v : ℕ) → source_test (
 unfolding source_test
 source_here k x v = both _ _ (same_bytes_refl k) (both _ _ (same_content_refl x) (eq-eqb v v refl))
 
-pub source_told : (a b : Option Operation) → source_test a b ≡ true → (k : List ℕ) × (x : Option (List ℕ)) × (v : ℕ) × (a ≡ Some (write k x v)) × (b ≡ Some (read k x v))
+pub source_reported : (a b : Option Operation) → source_test a b ≡ true → (k : List ℕ) × (x : Option (List ℕ)) × (v : ℕ) × (a ≡ Some (write k x v)) × (b ≡ Some (read k x v))
 unfolding source_test
-source_told (Some (write k x v)) (Some (read l y w)) e =
+source_reported (Some (write k x v)) (Some (read l y w)) e =
     let p = parts (same_bytes k l) (same_content x y && eqb v w) e in
     let q = parts (same_content x y) (eqb v w) p.1 in
     let kl : k ≡ l = same_bytes_true k l p.0 in
     let xy : x ≡ y = same_content_true x y q.0 in
     let vw : v ≡ w = eqb-true v w q.1 in
     (k, x, v, refl, cc)
-source_told (Some (write k x v)) (Some (write l y w)) e = absurd cc
-source_told (Some (write k x v)) (Some (missed l)) e = absurd cc
-source_told (Some (write k x v)) None e = absurd cc
-source_told (Some (read k x v)) b e = absurd cc
-source_told (Some (missed k)) b e = absurd cc
-source_told None b e = absurd cc
+source_reported (Some (write k x v)) (Some (write l y w)) e = absurd cc
+source_reported (Some (write k x v)) (Some (missed l)) e = absurd cc
+source_reported (Some (write k x v)) None e = absurd cc
+source_reported (Some (read k x v)) b e = absurd cc
+source_reported (Some (missed k)) b e = absurd cc
+source_reported None b e = absurd cc
 
 pub source_passes : (h : Sessions) (a b : OpName) → SourceStep h a b → source_test (op_at h a) (op_at h b) ≡ true
 source_passes h a b s =
@@ -87,9 +87,9 @@ source_passes h a b s =
 session_test : OpName → OpName → Option Operation → Bool
 session_test a b to = eqb a.client b.client && (ltb a.index b.index && is_some to)
 
-is_some_told : {A : Type 0} (o : Option A) → is_some o ≡ true → (x : A) × (o ≡ Some x)
-is_some_told (Some x) e = (x, refl)
-is_some_told None e = absurd cc
+is_some_reported : {A : Type 0} (o : Option A) → is_some o ≡ true → (x : A) × (o ≡ Some x)
+is_some_reported (Some x) e = (x, refl)
+is_some_reported None e = absurd cc
 
 step_test : Sessions → OpName → OpName → Bool
 step_test h a b = session_test a b (op_at h b) || source_test (op_at h a) (op_at h b)
@@ -98,16 +98,16 @@ either : (a b : Bool) → a || b ≡ true → (a ≡ true) ⊎ (b ≡ true)
 either true b e = inl refl
 either false b e = inr e
 
-step_told : (h : Sessions) (a b : OpName) → step_test h a b ≡ true → Step h a b
+step_recorded : (h : Sessions) (a b : OpName) → step_test h a b ≡ true → Step h a b
 unfolding step_test session_test
-step_told h a b e =
+step_recorded h a b e =
     elim (either (session_test a b (op_at h b)) (source_test (op_at h a) (op_at h b)) e) [
       | inl s ↦
           let p = parts (eqb a.client b.client) (ltb a.index b.index && is_some (op_at h b)) s in
           let q = parts (ltb a.index b.index) (is_some (op_at h b)) p.1 in
-          inl (record { same_client = eqb-true _ _ p.0; earlier = ltb-true _ _ q.0; is_there = is_some_told (op_at h b) q.1 })
+          inl (record { same_client = eqb-true _ _ p.0; earlier = ltb-true _ _ q.0; is_there = is_some_reported (op_at h b) q.1 })
       | inr s ↦
-          let t = source_told (op_at h a) (op_at h b) s in
+          let t = source_reported (op_at h a) (op_at h b) s in
           inr (record { key = t.0; content = t.1; version = t.2; put = t.3; got = t.4 })
     ]
 
@@ -147,7 +147,7 @@ past_joined h a b c p (step s) = more p s
 past_joined h a b c p (more q s) = more (past_joined h a b _ p q) s
 
 linked_past : (h : Sessions) (vs : List OpName) (a b : OpName) → linked (step_test h) vs a b ≡ true → Past h a b
-linked_past h [] a b e = step (step_told h a b e)
+linked_past h [] a b e = step (step_recorded h a b e)
 linked_past h (v ∷ vs) a b e =
     elim (linked_cases (step_test h) v vs a b e) [ inl l ↦ linked_past h vs a b l | inr r ↦ past_joined h a v b (linked_past h vs a v r.0) (linked_past h vs v b r.1) ]
 
@@ -157,9 +157,9 @@ past_linked h a b (more {by = m} p s) =
     let there = from_there h m b s in
     joined (step_test h) (names_of h) a m b (is_named h m there.0 there.1) (past_linked h a m p) (step_linked (step_test h) (names_of h) m b (step_passes h m b s))
 
-pub past_told : (h : Sessions) (a b : OpName) → past_test h a b ≡ true → Past h a b
+pub past_reported : (h : Sessions) (a b : OpName) → past_test h a b ≡ true → Past h a b
 unfolding past_test
-past_told h a b e = linked_past h (names_of h) a b e
+past_reported h a b e = linked_past h (names_of h) a b e
 
 pub past_passes : (h : Sessions) (a b : OpName) → Past h a b → past_test h a b ≡ true
 unfolding past_test
@@ -228,7 +228,7 @@ past_order h = rows (past_test h) (names_of h) (names_of h)
 pub precedes_past : (h : Sessions) (a b : OpName) → Precedes (past_order h) a b → Past h a b
 unfolding past_order
 precedes_past h a b at =
-    past_told h a b (rows_kept (past_test h) (names_of h) (names_of h) (a, b) (mem_from_contains (a, b) (past_order h) at))
+    past_reported h a b (rows_kept (past_test h) (names_of h) (names_of h) (a, b) (mem_from_contains (a, b) (past_order h) at))
 
 pub past_precedes : (h : Sessions) (a b : OpName) → Past h a b → Precedes (past_order h) a b
 unfolding past_order

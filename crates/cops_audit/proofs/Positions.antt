@@ -5,7 +5,7 @@ use Rattle.std.proofs.lemmas.Option.{slice_get_within}
 use Rattle.cops_types.specs.declared.op.OpName.{OpName}
 use Rattle.cops_types.specs.Histories.{Sessions}
 use Rattle.cops_types.specs.declared.versioned_put.VersionedPut.{VersionedPut}
-use Rattle.cops_audit.specs.Notes.{StandsAt}
+use Rattle.cops_audit.specs.Summaries.{StandsAt}
 use Rattle.cops_audit.specs.Tables.{IsVersionTable}
 use Rattle.cops_audit.proofs.Places.{same_put_at, stands_at}
 
@@ -16,21 +16,21 @@ module _ {A : Type 0} where
   set_at (y ∷ ys) zero x inside = refl
   set_at (y ∷ ys) (suc i) x inside = set_at ys i x (omega (arith, inside))
 
-  set_beside : (xs : List A) (i j : ℕ) (x : A) → j ≢ i → slice_get (slice_set xs i x) j ≡ slice_get xs j
-  set_beside [] i j x differs = refl
-  set_beside (y ∷ ys) zero zero x differs = absurd (differs refl)
-  set_beside (y ∷ ys) zero (suc j) x differs = refl
-  set_beside (y ∷ ys) (suc i) zero x differs = refl
-  set_beside (y ∷ ys) (suc i) (suc j) x differs = set_beside ys i j x (λ e. differs (ap suc e))
+  set_elsewhere : (xs : List A) (i j : ℕ) (x : A) → j ≢ i → slice_get (slice_set xs i x) j ≡ slice_get xs j
+  set_elsewhere [] i j x differs = refl
+  set_elsewhere (y ∷ ys) zero zero x differs = absurd (differs refl)
+  set_elsewhere (y ∷ ys) zero (suc j) x differs = refl
+  set_elsewhere (y ∷ ys) (suc i) zero x differs = refl
+  set_elsewhere (y ∷ ys) (suc i) (suc j) x differs = set_elsewhere ys i j x (λ e. differs (ap suc e))
 
 -- each of the table's places below the end is at the number of its put, where the put has a number
-abbrev pub TellPlacesBelow : ℕ → List OpName → List VersionedPut → List ℕ → Type 0
-TellPlacesBelow end puts table places =
+abbrev pub ReportPlacesBelow : ℕ → List OpName → List VersionedPut → List ℕ → Type 0
+ReportPlacesBelow end puts table places =
     (k number : ℕ) (put : OpName) (version : ℕ) → k < end → StandsAt table k put version → slice_get puts number ≡ Some put → slice_get places number ≡ Some k
 
 -- each put of the table below the end has a number, and its place is at that number
-abbrev pub AllToldBelow : ℕ → List OpName → List VersionedPut → List ℕ → Type 0
-AllToldBelow end puts table places =
+abbrev pub AllReportedBelow : ℕ → List OpName → List VersionedPut → List ℕ → Type 0
+AllReportedBelow end puts table places =
     (k : ℕ) (put : OpName) (version : ℕ) → k < end → StandsAt table k put version → (number : ℕ) × (slice_get puts number ≡ Some put) × (slice_get places number ≡ Some k)
 
 module _ (h : Sessions) (puts : List OpName) (table : List VersionedPut) (t : IsVersionTable h table) (k : ℕ) (inside : k < length table) (d : VersionedPut) (number : ℕ) (at : slice_get puts number ≡ Some (get_or table k d).name)
@@ -38,8 +38,8 @@ module _ (h : Sessions) (puts : List OpName) (table : List VersionedPut) (t : Is
   pub number_inside : number < length places
   number_inside = omega (arith, whole, slice_get_within puts number (get_or table k d).name at)
 
-  pub told_more : TellPlacesBelow k puts table places → TellPlacesBelow (k + 1) puts table (slice_set places number k)
-  told_more told j n put version less stands named = elim (eq-or-lt_of_le (let le : j ≤ k = omega (arith, less) in le)) [
+  pub reported_more : ReportPlacesBelow k puts table places → ReportPlacesBelow (k + 1) puts table (slice_set places number k)
+  reported_more reported j n put version less stands named = elim (eq-or-lt_of_le (let le : j ≤ k = omega (arith, less) in le)) [
     | inl e ↦
         let same = (same_put_at table t.rising k put (get_or table k d).name version (get_or table k d).version (subst (λ (i : ℕ). StandsAt table i put version) e stands) (stands_at table k d inside)).0 in
         let is : n ≡ number = alone n (named ∙ ap Some same) in
@@ -52,16 +52,16 @@ module _ (h : Sessions) (puts : List OpName) (table : List VersionedPut) (t : Is
         let both : Some put ≡ Some (get_or table k d).name = sym named ∙ ap (slice_get puts) e ∙ at in
         let names : put ≡ (get_or table k d).name = cc in
         t.table.once j k d before inside (sym is_q ∙ names) in
-        set_beside places number n k apart ∙ told j n put version before stands named
+        set_elsewhere places number n k apart ∙ reported j n put version before stands named
   ]
 
-  pub all_more : AllToldBelow k puts table places → AllToldBelow (k + 1) puts table (slice_set places number k)
-  all_more told j put version less stands = elim (eq-or-lt_of_le (let le : j ≤ k = omega (arith, less) in le)) [
+  pub all_more : AllReportedBelow k puts table places → AllReportedBelow (k + 1) puts table (slice_set places number k)
+  all_more reported j put version less stands = elim (eq-or-lt_of_le (let le : j ≤ k = omega (arith, less) in le)) [
     | inl e ↦
         let same = (same_put_at table t.rising k put (get_or table k d).name version (get_or table k d).version (subst (λ (i : ℕ). StandsAt table i put version) e stands) (stands_at table k d inside)).0 in
         (number, at ∙ ap Some (sym same), set_at places number k number_inside ∙ ap Some (sym e))
     | inr before ↦
-        let old = told j put version before stands in
+        let old = reported j put version before stands in
         let q = get_or table j d in
         let there : j < length table = omega (arith, before, inside) in
         let is_q = (same_put_at table t.rising j put q.name version q.version stands (stands_at table j d there)).0 in
@@ -69,5 +69,5 @@ module _ (h : Sessions) (puts : List OpName) (table : List VersionedPut) (t : Is
         let both : Some put ≡ Some (get_or table k d).name = sym old.1 ∙ ap (slice_get puts) e ∙ at in
         let names : put ≡ (get_or table k d).name = cc in
         t.table.once j k d before inside (sym is_q ∙ names) in
-        (old.0, old.1, set_beside places number old.0 k apart ∙ old.2)
+        (old.0, old.1, set_elsewhere places number old.0 k apart ∙ old.2)
   ]

@@ -6,7 +6,7 @@ use Rattle.std.proofs.lemmas.Bool.{cases_lt}
 use Rattle.std.proofs.lemmas.List.Elements.{Contains-append_left, Contains-push, Contains-push_cases}
 use Rattle.std.proofs.lemmas.List.Sums.{sum_by-set}
 use Rattle.cops_types.specs.declared.op.OpName.{OpName}
-use Rattle.cops_audit.specs.declared.sweep.Range.{Range}
+use Rattle.cops_audit.specs.declared.sweep.OpRange.{OpRange}
 use Rattle.cops_audit.specs.Sweeps.{Counted, InRange, InSome}
 
 either : (i j : ℕ) → (i ≡ j) ⊎ (i ≢ j)
@@ -47,13 +47,13 @@ module _ (xs : List ℕ) (c to : ℕ) (inside : c < length xs) where
   pub room_falls : (m : ℕ) → get_or xs c 0 < to → to ≤ m → sum_by (λ k. m - k) (slice_set xs c to) + 1 ≤ sum_by (λ k. m - k) xs
   room_falls m less fits = omega (arith, sum_by-set (λ (k : ℕ). m - k) xs c to 0 inside, less, fits)
 
-pub in_some_kept : (ranges : List Range) (r : Range) (n : OpName) → InSome ranges n → InSome (ranges ++ r ∷ []) n
+pub in_some_kept : (ranges : List OpRange) (r : OpRange) (n : OpName) → InSome ranges n → InSome (ranges ++ r ∷ []) n
 in_some_kept ranges r n w = (w.0, Contains-append_left ranges (r ∷ []) w.0 w.1, w.2)
 
-pub in_some_last : (ranges : List Range) (r : Range) (n : OpName) → InRange r n → InSome (ranges ++ r ∷ []) n
+pub in_some_last : (ranges : List OpRange) (r : OpRange) (n : OpName) → InRange r n → InSome (ranges ++ r ∷ []) n
 in_some_last ranges r n w = (r, Contains-push ranges r, w)
 
-pub in_some_cases : (ranges : List Range) (r : Range) (n : OpName) → InSome (ranges ++ r ∷ []) n → InSome ranges n ⊎ InRange r n
+pub in_some_cases : (ranges : List OpRange) (r : OpRange) (n : OpName) → InSome (ranges ++ r ∷ []) n → InSome ranges n ⊎ InRange r n
 in_some_cases ranges r n w = elim (Contains-push_cases ranges r w.0 w.1) [
   | inl old ↦ inl (w.0, old, w.2)
   | inr same ↦ inr (subst (λ x. InRange x n) (sym same) w.2)

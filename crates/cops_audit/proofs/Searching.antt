@@ -7,7 +7,7 @@ use Rattle.cops_types.specs.Histories.{Sessions, PutsVersion, SourceStep}
 use Rattle.cops_types.specs.Operations.{GetsVersion}
 use Rattle.cops_types.specs.Past.{Past, step, more}
 use Rattle.cops_types.specs.declared.versioned_put.VersionedPut.{VersionedPut}
-use Rattle.cops_audit.specs.declared.sweep.Range.{Range}
+use Rattle.cops_audit.specs.declared.sweep.OpRange.{OpRange}
 use Rattle.cops_audit.specs.declared.sweep.Sweep.{Sweep}
 use Rattle.cops_audit.specs.Searches.{Finds, IsSearching, TakesSources}
 use Rattle.cops_audit.specs.Sweeps.{Counted, InRange, InSome, Raises}
@@ -158,7 +158,7 @@ module _ (h : Sessions) where
   }
 
   -- a range is taken from those that are pending
-  pub search_popped : (old new : Sweep) (range : Range) → new.counts ≡ old.counts → old.pending.items ≡ new.pending.items ++ range ∷ [] → IsSearching h old (λ _. ⊥) → IsSearching h new (InRange range)
+  pub search_popped : (old new : Sweep) (range : OpRange) → new.counts ≡ old.counts → old.pending.items ≡ new.pending.items ++ range ∷ [] → IsSearching h old (λ _. ⊥) → IsSearching h new (InRange range)
   search_popped old new range counts pending was = record {
     clients = ap length counts ∙ was.clients;
     open_counted = λ n there. now n (was.pending_counted n (subst (λ rs. InSome rs n) (sym pending) (in_some_last new.pending.items range n there)));

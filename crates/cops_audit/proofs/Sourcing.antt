@@ -8,8 +8,8 @@ use Rattle.cops_types.specs.Histories.{Sessions, IsPut, SourceStep, op_at, Opera
 use Rattle.cops_types.specs.Operations.{GetsVersion}
 use Rattle.cops_types.specs.Recorded.{Recorded, IsOpenAt}
 use Rattle.cops_types.specs.Verdicts.{AllHaveSources}
-use Rattle.cops_audit.specs.declared.notes.Seen.TheVariants.{Got as SeenGot}
-use Rattle.cops_audit.specs.Notes.{IsSeen}
+use Rattle.cops_audit.specs.declared.summaries.OpPlace.TheVariants.{Got as SeenGot}
+use Rattle.cops_audit.specs.Summaries.{IsSeen}
 use Rattle.cops_audit.specs.Placing.{AreSourcePlaces, IsSourcePlace}
 use Rattle.cops_audit.proofs.Listing.{slice_get_there}
 use Rattle.cops_audit.proofs.Marks.{slice_get_push}
@@ -24,9 +24,9 @@ source_seen h table got op place p at =
 -- the put at the place that was looked up
 pub source_stands : (h : Sessions) (table : List VersionedPut) (op : Operation) (place : ℕ) (d : VersionedPut) → place < length table
     → (key : List ℕ) (content : Option (List ℕ)) (version : ℕ) → (get_or table place d).version ≡ version → IsPut h (get_or table place d).name key content version → op ≡ read key content version → IsSourcePlace h table op place
-source_stands h table op place d inside key content version bears puts got =
+source_stands h table op place d inside key content version has_version puts got =
     let put = get_or table place d in
-    (put.name, key, content, version, stands table place d inside ∙ (λ j. Some (record { version = bears j; name = put.name })), puts, got)
+    (put.name, key, content, version, stands table place d inside ∙ (λ j. Some (record { version = has_version j; name = put.name })), puts, got)
 
 -- one more place
 pub places_push : (r : Recorded) (table : List VersionedPut) (places : List ℕ) (place : ℕ) → AreSourcePlaces r table places

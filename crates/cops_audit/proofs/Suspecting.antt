@@ -4,10 +4,10 @@ use Rattle.cops_types.specs.declared.op.OpName.{OpName}
 use Rattle.cops_types.specs.Histories.{Sessions, IsGot, IsMissed, PutsKey, PutsVersion, read, missed}
 use Rattle.cops_types.specs.Operations.{GetsVersion}
 use Rattle.cops_types.specs.declared.versioned_put.VersionedPut.{VersionedPut}
-use Rattle.cops_audit.specs.declared.notes.Seen.TheVariants as seen
+use Rattle.cops_audit.specs.declared.summaries.OpPlace.TheVariants as seen
 use Rattle.cops_audit.specs.SoFar.{IsWaiting}
 use Rattle.cops_audit.specs.Tables.{IsVersionTable}
-use Rattle.cops_audit.specs.Notes.{IsSeen, StandsAt}
+use Rattle.cops_audit.specs.Summaries.{IsSeen, StandsAt}
 use Rattle.cops_audit.specs.Keys.{IsFirstFrom, IsFirstOn, IsNext, OnKey}
 use Rattle.cops_audit.specs.Windows.{HasFirst, IsSuspect, NoneWithin, WouldBeNewer}
 use Rattle.cops_audit.proofs.Acyclic.{one_version}

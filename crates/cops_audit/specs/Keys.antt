@@ -6,7 +6,7 @@ use Rattle.cops_types.specs.Histories.{Sessions, PutsKey, op_at}
 use Rattle.cops_types.specs.Operations.{key_of}
 use Rattle.cops_types.specs.Recorded.{Recorded}
 use Rattle.cops_types.specs.declared.versioned_put.VersionedPut.{VersionedPut}
-use Rattle.cops_audit.specs.Notes.{StandsAt}
+use Rattle.cops_audit.specs.Summaries.{StandsAt}
 
 -- the put at this place is on this key
 abbrev pub OnKey : Sessions → List VersionedPut → ℕ → List ℕ → Type 0

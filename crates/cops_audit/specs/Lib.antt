@@ -2,8 +2,8 @@ pub mod Clocks
 pub mod Keys
 pub mod Links
 pub mod Names
-pub mod Noted
-pub mod Notes
+pub mod Summarized
+pub mod Summaries
 pub mod Placing
 pub mod Rooms
 pub mod Searches

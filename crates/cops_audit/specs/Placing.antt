@@ -6,11 +6,11 @@ use Rattle.cops_types.specs.Histories.{Sessions, IsPut, Operation, read}
 use Rattle.cops_types.specs.Recorded.{Recorded}
 use Rattle.cops_types.specs.Verdicts.{AllHaveSources}
 use Rattle.cops_audit.specs.declared.sources.Sources.{Sources}
-use Rattle.cops_audit.specs.Notes.{StandsAt}
+use Rattle.cops_audit.specs.Summaries.{StandsAt}
 
 -- the place of each put is at its number, and each place of the table is listed
 pub record ArePutPlaces (puts : List OpName) (table : List VersionedPut) (places : List ℕ) : Type 0 where
-  pub tell : (k number : ℕ) (put : OpName) (version : ℕ) → StandsAt table k put version → slice_get puts number ≡ Some put → slice_get places number ≡ Some k
+  pub report : (k number : ℕ) (put : OpName) (version : ℕ) → StandsAt table k put version → slice_get puts number ≡ Some put → slice_get places number ≡ Some k
   pub all : (k : ℕ) → k < length table → (number : ℕ) × (slice_get places number ≡ Some k)
 
 -- the put at this place has what the get returned

@@ -4,17 +4,17 @@ use Rattle.cops_types.specs.Histories.{Sessions, IsNamed}
 use Rattle.cops_types.specs.Faults.{Lists}
 use Rattle.cops_types.specs.Counts.{count_of}
 use Rattle.cops_types.specs.Recorded.{IsWithinLimits}
-use Rattle.cops_audit.specs.declared.notes.Note.{Note}
-use Rattle.cops_audit.specs.declared.room.Room.{Room}
+use Rattle.cops_audit.specs.declared.summaries.Summary.{Summary}
+use Rattle.cops_audit.specs.declared.room.Scratch.{Scratch}
 use Rattle.cops_audit.specs.Floors.{AreFloors}
 use Rattle.cops_audit.specs.Keys.{AreFirsts, AreNexts}
-use Rattle.cops_audit.specs.Notes.{Flat, IsNoted}
+use Rattle.cops_audit.specs.Summaries.{Flat, IsSummarized}
 use Rattle.cops_audit.specs.Sweeps.{HasRoom, IsIdle}
 use Rattle.cops_audit.specs.Tables.{IsVersionTable}
 use Rattle.cops_audit.specs.Windows.{AreAllSuspects}
 
 -- capacity for `count` operations
-pub record HasSpace (count : ℕ) (room : Room) : Type 0 where
+pub record HasSpace (count : ℕ) (room : Scratch) : Type 0 where
   pub names : count ≤ vec_capacity room.names
   pub table : count ≤ vec_capacity room.table
   pub places : count ≤ vec_capacity room.places
@@ -27,43 +27,43 @@ pub record HasSpace (count : ℕ) (room : Room) : Type 0 where
   pub newest : count ≤ length room.sweep.newest
 
 -- all names, and the puts in order of versions without duplicates
-pub record IsFilled (h : Sessions) (room : Room) : Type 0 where
+pub record IsFilled (h : Sessions) (room : Scratch) : Type 0 where
   pub names : Lists (λ n. n) (IsNamed h) room.names.items
   pub count : length room.names.items ≡ count_of h
   pub table : IsVersionTable h room.table.items
   pub few : length room.table.items ≤ count_of h
 
 -- the same counts, and still nothing to visit
-pub record IsSameButSpace (old new : Room) : Type 0 where
+pub record IsSameButSpace (old new : Scratch) : Type 0 where
   pub counts : new.sweep.counts ≡ old.sweep.counts
   pub empty : old.sweep.pending.items ≡ [] → new.sweep.pending.items ≡ []
 
 -- capacity for all operations, and a count for each client; nothing is left to visit
-pub record IsReady (h : Sessions) (room : Room) : Type 0 where
+pub record IsReady (h : Sessions) (room : Scratch) : Type 0 where
   pub space : HasSpace room.space room
   pub enough : count_of h ≤ room.space
   pub counts : length room.sweep.counts ≡ length h
   pub empty : room.sweep.pending.items ≡ []
 
 -- a ready room, with capacity for the summaries of as many operations
-pub record Fits (h : Sessions) (room : Room) (flat : Flat) : Type 0 where
+pub record Fits (h : Sessions) (room : Scratch) (flat : Flat) : Type 0 where
   pub ready : IsReady h room
   pub sessions : length h ≤ flat.session_room
-  pub notes : room.space ≤ flat.note_room
+  pub summaries : room.space ≤ flat.summary_room
 
 -- a ready room for a history, with its puts and the summaries of its operations
-pub record IsNotedIn (h : Sessions) (room : Room) (sessions : List (List Note)) : Type 0 where
+pub record IsSummarizedIn (h : Sessions) (room : Scratch) (sessions : List (List Summary)) : Type 0 where
   pub ready : IsReady h room
   pub limits : IsWithinLimits h
   pub table : IsVersionTable h room.table.items
   pub few : length room.table.items ≤ count_of h
-  pub notes : IsNoted h room.table.items sessions
+  pub summaries : IsSummarized h room.table.items sessions
 
 -- the gets that may be stale are listed, with the tables that decide whether they are, and the sweep is at its start
-pub record IsSuspected (h : Sessions) (room : Room) (notes : List (List Note)) : Type 0 where
+pub record IsSuspected (h : Sessions) (room : Scratch) (summaries : List (List Summary)) : Type 0 where
   pub suspects : AreAllSuspects h room.table.items room.suspects.items
   pub nexts : AreNexts h room.table.items room.nexts.items
   pub firsts : AreFirsts h room.table.items room.firsts.items
   pub floors : AreFloors room.suspects.items room.floors.items
   pub idle : IsIdle (length h) (length room.table.items) room.sweep
-  pub space : HasRoom room.space (map length notes) room.sweep
+  pub space : HasRoom room.space (map length summaries) room.sweep

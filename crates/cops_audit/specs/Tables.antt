@@ -37,6 +37,6 @@ pub record AreDoubledPuts (h : Sessions) (puts : List VersionedPut) : Type 0 whe
   pub in_order : VersionsNeverFall puts
 
 -- for each put, at its number, whether another put has its version
-pub record TellDoubled (r : Recorded) (doubled : List Bool) : Type 0 where
+pub record ReportDoubled (r : Recorded) (doubled : List Bool) : Type 0 where
   pub whole : length doubled ≡ length r.puts
   pub each : (number : ℕ) (put : OpName) → slice_get r.puts number ≡ Some put → (slice_index_or doubled number false ≡ true) ↔ IsDoubled r.sessions put

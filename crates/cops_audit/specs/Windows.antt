@@ -7,7 +7,7 @@ use Rattle.cops_types.specs.declared.versioned_put.VersionedPut.{VersionedPut}
 use Rattle.cops_audit.specs.declared.window.Suspect.{Suspect}
 use Rattle.cops_audit.specs.Keys.{IsFirstOn, OnKey}
 use Rattle.cops_audit.specs.Names.{ListsBefore}
-use Rattle.cops_audit.specs.Notes.{StandsAt}
+use Rattle.cops_audit.specs.Summaries.{StandsAt}
 
 -- a put of this version on the key, which is newer than what was returned if it is in the past
 abbrev pub WouldBeNewer : Sessions → OpName → OpName → ℕ → Type 0

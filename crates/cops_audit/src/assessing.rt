@@ -3,20 +3,20 @@ ghost use Rattle.cops_types.specs.declared.op.OpName.{OpName};
 ghost use Rattle.cops_types.specs.Faults.{HasNoSource, IsStale};
 ghost use Rattle.cops_types.specs.Recorded.{IsWithinLimits};
 ghost use Rattle.cops_types.specs.Verdicts.{AllAbove, NoneStale};
-ghost use Rattle.cops_audit.specs.Notes.{IsNoted};
+ghost use Rattle.cops_audit.specs.Summaries.{IsSummarized};
 ghost use Rattle.cops_audit.specs.Placing.{ArePutPlaces};
-ghost use Rattle.cops_audit.specs.Rooms.{Fits, IsFilled, IsNotedIn, IsReady, IsSuspected};
+ghost use Rattle.cops_audit.specs.Rooms.{Fits, IsFilled, IsSummarizedIn, IsReady, IsSuspected};
 ghost use Rattle.cops_audit.specs.SoFar.{HaveSourcesOrWait, IsMismatched, IsSoFar, IsWaiting};
 ghost use Rattle.cops_audit.specs.Tables.{IsVersionTable};
 
-use crate::flat::FlatNotes;
+use crate::flat::FlatSummaries;
 use crate::floors::set_floors;
 use crate::keys::{link, set_firsts, set_keys};
 use crate::names::set_names;
-use crate::notes::{Notes, count_sourceless, is_sourceless};
 use crate::put_places::set_places;
-use crate::room::Room;
+use crate::room::Scratch;
 use crate::stale::has_stale;
+use crate::summaries::{Summaries, count_sourceless, is_sourceless};
 use crate::table::{is_rising, place_of, set_puts};
 use crate::verdict::SoFar;
 use crate::window::set_suspects;
@@ -43,16 +43,16 @@ fn is_mismatched(history: &History, table: &[VersionedPut], got: OpName) -> bool
 fn has_mismatched(
     history: &History,
     table: &[VersionedPut],
-    notes: &Notes,
+    summaries: &Summaries,
     names: &[OpName],
 ) -> bool
     requires table { IsVersionTable history.now.sessions table.now }
-    requires notes { IsNoted history.now.sessions table.now notes.now }
+    requires summaries { IsSummarized history.now.sessions table.now summaries.now }
     ensures mismatched { IsTrue result → (got : OpName) × (put : OpName) × IsMismatched history.now.sessions got put }
     ensures waiting { ¬ IsTrue result → (k : ℕ) (d : OpName) → k < length names.now → HasNoSource history.now.sessions (slice_index_or names.now k d) → IsWaiting history.now.sessions (slice_index_or names.now k d) }
 {
     for got in names {
-        if is_sourceless(notes, *got) {
+        if is_sourceless(summaries, *got) {
             if is_mismatched(history, table, *got) {
                 return true;
             }
@@ -61,16 +61,16 @@ fn has_mismatched(
     false
 }
 
-impl Room {
+impl Scratch {
     /// Finds the gets that may be stale, in a history where each get has its source or no put has its version yet, and
     /// each put is above what its session saw. It allocates nothing and always returns `Ok`.
-    pub fn suspect(&mut self, history: &History, notes: &Notes) -> Result<(), AllocError>
-        requires noted { IsNotedIn history.now.sessions self.old notes.now }
+    pub fn suspect(&mut self, history: &History, summaries: &Summaries) -> Result<(), AllocError>
+        requires summarized { IsSummarizedIn history.now.sessions self.old summaries.now }
         requires places { ArePutPlaces history.now.puts self.old.table.items self.old.places.items }
         requires sources { HaveSourcesOrWait history.now.sessions }
         requires above { AllAbove history.now.sessions }
         ensures ok { IsOk result }
-        ensures suspected { OnOk result (IsSuspected history.now.sessions self.new notes.now) }
+        ensures suspected { OnOk result (IsSuspected history.now.sessions self.new summaries.now) }
         ensures ready { OnOk result (IsReady history.now.sessions self.new) }
         ensures space { OnOk result (self.new.space ≡ self.old.space) }
         ensures names { OnOk result (self.new.names ≡ self.old.names) }
@@ -84,7 +84,7 @@ impl Room {
         link(&mut self.nexts, &mut self.by_key, history, table, keys)?;
         let nexts = self.nexts.as_slice();
         let by_key = self.by_key.as_slice();
-        set_suspects(&mut self.suspects, history, table, notes, nexts, by_key)?;
+        set_suspects(&mut self.suspects, history, table, summaries, nexts, by_key)?;
         set_firsts(&mut self.firsts, table, nexts)?;
         set_floors(&mut self.floors, self.suspects.as_slice())?;
         self.sweep.restart();
@@ -92,8 +92,8 @@ impl Room {
     }
 
     /// Whether a get is stale, in a history as for `suspect`. It allocates nothing and always returns `Ok`.
-    fn has_stale(&mut self, history: &History, notes: &Notes) -> Result<bool, AllocError>
-        requires noted { IsNotedIn history.now.sessions self.old notes.now }
+    fn has_stale(&mut self, history: &History, summaries: &Summaries) -> Result<bool, AllocError>
+        requires summarized { IsSummarizedIn history.now.sessions self.old summaries.now }
         requires places { ArePutPlaces history.now.puts self.old.table.items self.old.places.items }
         requires sources { HaveSourcesOrWait history.now.sessions }
         requires above { AllAbove history.now.sessions }
@@ -104,7 +104,7 @@ impl Room {
         ensures space { OnOk result (self.new.space ≡ self.old.space) }
         ensures names { OnOk result (self.new.names ≡ self.old.names) }
     {
-        self.suspect(history, notes)?;
+        self.suspect(history, summaries)?;
         let table = self.table.as_slice();
         let firsts = self.firsts.as_slice();
         let suspects = self.suspects.as_slice();
@@ -113,7 +113,7 @@ impl Room {
             &mut self.sweep,
             history,
             table,
-            notes,
+            summaries,
             firsts,
             suspects,
             floors,
@@ -123,9 +123,13 @@ impl Room {
 
     /// The verdict so far on a history in which no two puts have the same version, each put is above what its session
     /// saw, and all operations have their causal summaries. It always returns `Ok`.
-    fn assess_notes(&mut self, history: &History, notes: &Notes) -> Result<SoFar, AllocError>
+    fn assess_summaries(
+        &mut self,
+        history: &History,
+        summaries: &Summaries,
+    ) -> Result<SoFar, AllocError>
         requires above { AllAbove history.now.sessions }
-        requires noted { IsNotedIn history.now.sessions self.old notes.now }
+        requires summarized { IsSummarizedIn history.now.sessions self.old summaries.now }
         requires places { ArePutPlaces history.now.puts self.old.table.items self.old.places.items }
         requires filled { IsFilled history.now.sessions self.old }
         ensures ok { IsOk result }
@@ -135,14 +139,14 @@ impl Room {
     {
         let table = self.table.as_slice();
         let names = self.names.as_slice();
-        if has_mismatched(history, table, notes, names) {
+        if has_mismatched(history, table, summaries, names) {
             return Ok(SoFar::Refused);
         }
-        let stale = self.has_stale(history, notes)?;
+        let stale = self.has_stale(history, summaries)?;
         if stale {
             return Ok(SoFar::Refused);
         }
-        let waiting = count_sourceless(notes, self.names.as_slice());
+        let waiting = count_sourceless(summaries, self.names.as_slice());
         if waiting == 0 {
             return Ok(SoFar::Clean);
         }
@@ -151,7 +155,11 @@ impl Room {
 
     /// The verdict so far on a history in which no two puts have the same version and each put is above what its
     /// session saw. It always returns `Ok`.
-    fn assess_gets(&mut self, flat: &mut FlatNotes, history: &History) -> Result<SoFar, AllocError>
+    fn assess_gets(
+        &mut self,
+        flat: &mut FlatSummaries,
+        history: &History,
+    ) -> Result<SoFar, AllocError>
         requires above { AllAbove history.now.sessions }
         requires fits { Fits history.now.sessions self.old flat.old }
         requires limits { IsWithinLimits history.now.sessions }
@@ -162,14 +170,18 @@ impl Room {
     {
         let table = self.table.as_slice();
         set_places(&mut self.places, history, table)?;
-        flat.renew(history, table);
-        let notes = flat.look();
-        let so_far = self.assess_notes(history, &notes)?;
+        flat.rebuild(history, table);
+        let summaries = flat.look();
+        let so_far = self.assess_summaries(history, &summaries)?;
         Ok(so_far)
     }
 
     /// The verdict so far on a history that may go on. It allocates nothing and always returns `Ok`.
-    pub fn assess(&mut self, flat: &mut FlatNotes, history: &History) -> Result<SoFar, AllocError>
+    pub fn assess(
+        &mut self,
+        flat: &mut FlatSummaries,
+        history: &History,
+    ) -> Result<SoFar, AllocError>
         requires { Fits history.now.sessions self.old flat.old }
         ensures ok { IsOk result }
         ensures so_far { IfOk result (IsSoFar history.now.sessions) }

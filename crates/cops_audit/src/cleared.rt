@@ -6,17 +6,17 @@ ghost use Rattle.cops_types.specs.Verdicts.{AllAbove};
 ghost use Rattle.cops_audit.specs.Clocks.{ArePassed, IsClearing, IsLeft, NoneCounted};
 ghost use Rattle.cops_audit.specs.Keys.{AreFirsts, AreNexts};
 ghost use Rattle.cops_audit.specs.Names.{ListsAmong};
-ghost use Rattle.cops_audit.specs.Notes.{IsNoted, note_at};
+ghost use Rattle.cops_audit.specs.Summaries.{IsSummarized, summary_at};
 ghost use Rattle.cops_audit.specs.SoFar.{HaveSourcesOrWait};
 ghost use Rattle.cops_audit.specs.Sweeps.{AreRising, Counted};
 ghost use Rattle.cops_audit.specs.Tables.{IsVersionTable};
 ghost use Rattle.cops_audit.specs.Windows.{AreSuspects};
-ghost use Rattle.cops_audit.specs.declared.notes.Note.{Note as ANote};
+ghost use Rattle.cops_audit.specs.declared.summaries.Summary.{Summary as ASummary};
 ghost use Rattle.cops_types.specs.declared.versioned_put.VersionedPut.{VersionedPut as APut};
 ghost use Rattle.cops_audit.specs.declared.window.Suspect.{Suspect as ASuspect};
 
-use crate::clocks::{Clocks, STAGE};
-use crate::notes::{Note, Notes};
+use crate::clocks::{CHECKPOINT, Clocks};
+use crate::summaries::{Summaries, Summary};
 use crate::window::Suspect;
 use cops_types::{History, OpName, VersionedPut};
 use std::alloc::{AllocError, Global};
@@ -35,13 +35,13 @@ const MOST_NEWER: usize = 16;
 const MOST_LEFT: usize = 4_096;
 
 /// The state of `clear`: the vector clocks of all sessions, each client's next suspect, which suspects are cleared, and
-/// how many are (`told`) and are not (`left`).
+/// how many are (`reported`) and are not (`left`).
 #[derive(Drop)]
 struct Clearing {
     clocks: Clocks,
     next: Vec<usize>,
     cleared: Vec<bool>,
-    told: usize,
+    reported: usize,
     left: usize,
 }
 
@@ -118,7 +118,7 @@ impl Clearing {
         puts: usize,
         suspects: &[Suspect],
     ) -> Result<Self, AllocError>
-        ensures { (table : List APut) (notes : List (List ANote)) (firsts : List ℕ) → length notes ≡ clients → IfOk result (IsClearing table notes firsts suspects.now) }
+        ensures { (table : List APut) (summaries : List (List ASummary)) (firsts : List ℕ) → length summaries ≡ clients → IfOk result (IsClearing table summaries firsts suspects.now) }
     {
         let next = first_suspects(alloc, clients, suspects)?;
         let cleared = none_cleared(alloc, suspects.len())?;
@@ -127,7 +127,7 @@ impl Clearing {
             clocks,
             next,
             cleared,
-            told: 0,
+            reported: 0,
             left: 0,
         })
     }
@@ -137,23 +137,23 @@ impl Clearing {
     fn look(
         &mut self,
         table: &[VersionedPut],
-        notes: &Notes,
+        summaries: &Summaries,
         nexts: &[u32],
         firsts: &[u32],
         suspects: &[Suspect],
         name: OpName,
-        note: Note,
+        summary: Summary,
     )
         requires links { (h : Sessions) × IsVersionTable h table.now × AreNexts h table.now nexts.now × AreFirsts h table.now firsts.now }
-        requires rising { AreRising table.now notes.now }
-        requires clearing { IsClearing table.now notes.now firsts.now suspects.now self.old }
-        requires noted { note_at notes.now name ≡ Some note }
-        requires inside { name.client < length notes.now }
+        requires rising { AreRising table.now summaries.now }
+        requires clearing { IsClearing table.now summaries.now firsts.now suspects.now self.old }
+        requires summarized { summary_at summaries.now name ≡ Some summary }
+        requires inside { name.client < length summaries.now }
         requires passed { slice_index self.old.clocks.passed.items name.client ≡ name.index + 1 }
-        ensures clearing { IsClearing table.now notes.now firsts.now suspects.now self.new }
+        ensures clearing { IsClearing table.now summaries.now firsts.now suspects.now self.new }
         ensures clocks { self.new.clocks ≡ self.old.clocks }
     {
-        let _ = notes;
+        let _ = summaries;
         let Some(next) = self.next.get_mut(name.client as usize) else {
             return;
         };
@@ -166,9 +166,9 @@ impl Clearing {
         }
         *next = place + 1;
         let known = self.clocks.known[name.client as usize].as_slice();
-        if none_counted(table, nexts, firsts, known, note.mark, suspect) {
+        if none_counted(table, nexts, firsts, known, summary.mark, suspect) {
             self.cleared[place] = true;
-            self.told = self.told.saturating_add(1);
+            self.reported = self.reported.saturating_add(1);
         } else {
             self.left = self.left.saturating_add(1);
         }
@@ -176,7 +176,7 @@ impl Clearing {
 
     /// Whether so few suspects are cleared that a sweep from each of them would have been faster.
     fn is_in_vain(&self) -> bool {
-        self.left.saturating_sub(self.told) > MOST_LEFT
+        self.left.saturating_sub(self.reported) > MOST_LEFT
     }
 
     /// Passes the operations of a client up to the index `end`. Returns false where one of them does not exist, or
@@ -184,7 +184,7 @@ impl Clearing {
     fn pass_to(
         &mut self,
         table: &[VersionedPut],
-        notes: &Notes,
+        summaries: &Summaries,
         nexts: &[u32],
         firsts: &[u32],
         suspects: &[Suspect],
@@ -192,23 +192,26 @@ impl Clearing {
         end: u32,
     ) -> Result<bool, AllocError>
         requires links { (h : Sessions) × IsVersionTable h table.now × AreNexts h table.now nexts.now × AreFirsts h table.now firsts.now }
-        requires rising { AreRising table.now notes.now }
-        requires clearing { IsClearing table.now notes.now firsts.now suspects.now self.old }
-        requires inside { client < length notes.now }
-        ensures clearing { IfOk result (λ went. IsTrue went → IsClearing table.now notes.now firsts.now suspects.now self.new) }
+        requires rising { AreRising table.now summaries.now }
+        requires clearing { IsClearing table.now summaries.now firsts.now suspects.now self.old }
+        requires inside { client < length summaries.now }
+        ensures clearing { IfOk result (λ went. IsTrue went → IsClearing table.now summaries.now firsts.now suspects.now self.new) }
         ensures passed { IfOk result (λ went. IsTrue went → end ≤ slice_index self.new.clocks.passed.items client) }
         ensures kept { IfOk result (λ went. IsTrue went → (k : ℕ) → slice_index self.old.clocks.passed.items k ≤ slice_index self.new.clocks.passed.items k) }
     {
-        let session = notes.session(client);
+        let session = summaries.session(client);
         for index in self.clocks.passed[client as usize]..end {
-            let Some(note) = session.get(index as usize) else {
+            let Some(summary) = session.get(index as usize) else {
                 return Ok(false);
             };
-            if !self.clocks.pass(table, notes, client as usize, *note)? {
+            if !self
+                .clocks
+                .pass(table, summaries, client as usize, *summary)?
+            {
                 return Ok(false);
             }
             let name = OpName { client, index };
-            self.look(table, notes, nexts, firsts, suspects, name, *note);
+            self.look(table, summaries, nexts, firsts, suspects, name, *summary);
         }
         Ok(true)
     }
@@ -219,34 +222,34 @@ impl Clearing {
         &mut self,
         history: &History,
         table: &[VersionedPut],
-        notes: &Notes,
+        summaries: &Summaries,
         nexts: &[u32],
         firsts: &[u32],
         suspects: &[Suspect],
     ) -> Result<bool, AllocError>
         requires links { IsVersionTable history.now.sessions table.now × AreNexts history.now.sessions table.now nexts.now × AreFirsts history.now.sessions table.now firsts.now }
-        requires noted { IsNoted history.now.sessions table.now notes.now }
-        requires rising { AreRising table.now notes.now }
-        requires clearing { IsClearing table.now notes.now firsts.now suspects.now self.old }
-        ensures { IfOk result (λ went. IsTrue went → IsClearing table.now notes.now firsts.now suspects.now self.new) }
+        requires summarized { IsSummarized history.now.sessions table.now summaries.now }
+        requires rising { AreRising table.now summaries.now }
+        requires clearing { IsClearing table.now summaries.now firsts.now suspects.now self.old }
+        ensures { IfOk result (λ went. IsTrue went → IsClearing table.now summaries.now firsts.now suspects.now self.new) }
     {
         for client in 0..history.clients() {
             let client = client as u16;
             let end = history.session_len(client) as u32;
-            if !self.pass_to(table, notes, nexts, firsts, suspects, client, end)? {
+            if !self.pass_to(table, summaries, nexts, firsts, suspects, client, end)? {
                 return Ok(false);
             }
         }
         Ok(true)
     }
 
-    /// Keeps a checkpoint after every `STAGE` puts, once the puts below the place `below` are passed.
+    /// Keeps a checkpoint after every `CHECKPOINT` puts, once the puts below the place `below` are passed.
     fn keep_passed(&mut self, alloc: Global, below: u32) -> Result<(), AllocError>
-        ensures clearing { (table : List APut) (notes : List (List ANote)) (firsts : List ℕ) (suspects : List ASuspect) → IsClearing table notes firsts suspects self.old
-            → ArePassed table self.old.clocks.passed.items below → OnOk result (IsClearing table notes firsts suspects self.new) }
+        ensures clearing { (table : List APut) (summaries : List (List ASummary)) (firsts : List ℕ) (suspects : List ASuspect) → IsClearing table summaries firsts suspects self.old
+            → ArePassed table self.old.clocks.passed.items below → OnOk result (IsClearing table summaries firsts suspects self.new) }
         ensures passed { OnOk result (self.new.clocks.passed ≡ self.old.clocks.passed) }
     {
-        if below as usize % STAGE != 0 {
+        if below as usize % CHECKPOINT != 0 {
             return Ok(());
         }
         self.clocks.keep_passed(alloc, below)?;
@@ -260,21 +263,21 @@ impl Clearing {
         alloc: Global,
         history: &History,
         table: &[VersionedPut],
-        notes: &Notes,
+        summaries: &Summaries,
         nexts: &[u32],
         firsts: &[u32],
         suspects: &[Suspect],
     ) -> Result<bool, AllocError>
         requires links { IsVersionTable history.now.sessions table.now × AreNexts history.now.sessions table.now nexts.now × AreFirsts history.now.sessions table.now firsts.now }
-        requires noted { IsNoted history.now.sessions table.now notes.now }
-        requires rising { AreRising table.now notes.now }
-        requires clearing { IsClearing table.now notes.now firsts.now suspects.now self.old }
-        ensures { IfOk result (λ went. IsTrue went → IsClearing table.now notes.now firsts.now suspects.now self.new) }
+        requires summarized { IsSummarized history.now.sessions table.now summaries.now }
+        requires rising { AreRising table.now summaries.now }
+        requires clearing { IsClearing table.now summaries.now firsts.now suspects.now self.old }
+        ensures { IfOk result (λ went. IsTrue went → IsClearing table.now summaries.now firsts.now suspects.now self.new) }
     {
         for place in 0..table.len() {
             let put = table[place].name;
             let end = put.index + 1;
-            if !self.pass_to(table, notes, nexts, firsts, suspects, put.client, end)? {
+            if !self.pass_to(table, summaries, nexts, firsts, suspects, put.client, end)? {
                 return Ok(false);
             }
             if self.is_in_vain() {
@@ -282,7 +285,7 @@ impl Clearing {
             }
             self.keep_passed(alloc, place as u32 + 1)?;
         }
-        self.pass_rest(history, table, notes, nexts, firsts, suspects)
+        self.pass_rest(history, table, summaries, nexts, firsts, suspects)
     }
 }
 
@@ -312,12 +315,12 @@ pub fn clear(
     alloc: Global,
     history: &History,
     table: &[VersionedPut],
-    notes: &Notes,
+    summaries: &Summaries,
     nexts: &[u32],
     firsts: &[u32],
 ) -> Result<(), AllocError>
     requires table { IsVersionTable history.now.sessions table.now }
-    requires notes { IsNoted history.now.sessions table.now notes.now }
+    requires summaries { IsSummarized history.now.sessions table.now summaries.now }
     requires nexts { AreNexts history.now.sessions table.now nexts.now }
     requires firsts { AreFirsts history.now.sessions table.now firsts.now }
     requires sources { HaveSourcesOrWait history.now.sessions }
@@ -331,7 +334,7 @@ pub fn clear(
     }
     let mut clearing = Clearing::new(alloc, clients, table.len(), suspects.as_slice())?;
     let seen = suspects.as_slice();
-    if !clearing.pass_all(alloc, history, table, notes, nexts, firsts, seen)? {
+    if !clearing.pass_all(alloc, history, table, summaries, nexts, firsts, seen)? {
         return Ok(());
     }
     let left = left_suspects(alloc, suspects.as_slice(), clearing.cleared.as_slice())?;

@@ -2,7 +2,7 @@ ghost use Rattle.std.specs.Prelude.{◌≡◌, ◌<◌, ◌≤◌, ◌+◌, ◌�
 ghost use Rattle.cops_types.specs.declared.op.OpName.{OpName};
 ghost use Rattle.cops_types.specs.Histories.{Sessions};
 ghost use Rattle.cops_types.specs.Faults.{HasVersion, IsBefore, IsNotAbove, IsNotBelow};
-ghost use Rattle.cops_audit.specs.Climbs.{AreHeights};
+ghost use Rattle.cops_audit.specs.Climbs.{AreMaxima};
 ghost use Rattle.cops_audit.specs.Names.{ListsAmong};
 
 use crate::verdict::NotAbove;
@@ -24,50 +24,50 @@ fn version_number(history: &History, name: OpName) -> u64
 }
 
 /// The session maximum after the last operation so far; 0 where there is none.
-fn last_height(heights: &[u64]) -> u64
-    ensures none { length heights.now ≡ 0 → result ≡ 0 }
-    ensures last { (i : ℕ) → i + 1 ≡ length heights.now → slice_get heights.now i ≡ Some result }
+fn last_maximum(maxima: &[u64]) -> u64
+    ensures none { length maxima.now ≡ 0 → result ≡ 0 }
+    ensures last { (i : ℕ) → i + 1 ≡ length maxima.now → slice_get maxima.now i ≡ Some result }
 {
-    heights.last().copied().unwrap_or(0)
+    maxima.last().copied().unwrap_or(0)
 }
 
 /// Extends the session maxima to the first `count` operations of a session.
 fn climb(
-    heights: &mut Vec<u64>,
+    maxima: &mut Vec<u64>,
     history: &History,
     client: u16,
     count: u32,
 ) -> Result<(), AllocError>
-    requires { AreHeights history.now.sessions client heights.old.items }
-    ensures heights { OnOk result (AreHeights history.now.sessions client heights.new.items) }
-    ensures count { OnOk result (count ≤ vec_len heights.new) }
+    requires { AreMaxima history.now.sessions client maxima.old.items }
+    ensures maxima { OnOk result (AreMaxima history.now.sessions client maxima.new.items) }
+    ensures count { OnOk result (count ≤ vec_len maxima.new) }
 {
-    let mut height = last_height(heights.as_slice());
-    for index in heights.len()..count as usize {
+    let mut maximum = last_maximum(maxima.as_slice());
+    for index in maxima.len()..count as usize {
         let name = OpName {
             client,
             index: index as u32,
         };
-        height = height.max(version_number(history, name));
-        heights.push(height)?;
+        maximum = maximum.max(version_number(history, name));
+        maxima.push(maximum)?;
     }
     Ok(())
 }
 
 /// The first operation of a session after which its session maximum is at least `version`.
-fn first_from(heights: &[u64], version: u64) -> usize
-    requires { (h : Sessions) × (client : ℕ) × AreHeights h client heights.now }
-    ensures before { (i height : ℕ) → i < result → slice_get heights.now i ≡ Some height → height < version }
-    ensures from { (i height : ℕ) → result ≤ i → slice_get heights.now i ≡ Some height → version ≤ height }
+fn first_from(maxima: &[u64], version: u64) -> usize
+    requires { (h : Sessions) × (client : ℕ) × AreMaxima h client maxima.now }
+    ensures before { (i maximum : ℕ) → i < result → slice_get maxima.now i ≡ Some maximum → maximum < version }
+    ensures from { (i maximum : ℕ) → result ≤ i → slice_get maxima.now i ≡ Some maximum → version ≤ maximum }
 {
-    heights.partition_point(|height| *height < version)
+    maxima.partition_point(|maximum| *maximum < version)
 }
 
 /// The first earlier operation of a put's session whose version is not below the put's, by the session maxima before
 /// the put.
-fn first_not_below(history: &History, heights: &[u64], name: OpName) -> Option<OpName>
-    requires heights { AreHeights history.now.sessions name.client heights.now }
-    requires before { name.index ≤ length heights.now }
+fn first_not_below(history: &History, maxima: &[u64], name: OpName) -> Option<OpName>
+    requires maxima { AreMaxima history.now.sessions name.client maxima.now }
+    requires before { name.index ≤ length maxima.now }
     ensures first { IfSome result (λ e. IsNotAbove history.now.sessions name e) }
     ensures none { IfNone result ((e : OpName) → ¬ IsNotBelow history.now.sessions e name) }
 {
@@ -78,34 +78,34 @@ fn first_not_below(history: &History, heights: &[u64], name: OpName) -> Option<O
     if name.index == 0 {
         return None;
     }
-    if heights[name.index as usize - 1] < version {
+    if maxima[name.index as usize - 1] < version {
         return None;
     }
-    let first = first_from(heights, version);
+    let first = first_from(maxima, version);
     Some(OpName {
         client: name.client,
         index: first as u32,
     })
 }
 
-/// The first earlier operation of a put's session whose version is not below the put's. `heights` holds the session
+/// The first earlier operation of a put's session whose version is not below the put's. `maxima` holds the session
 /// maxima of some first operations; it is extended up to the put unless the history records that all puts of the
 /// session are above what it saw.
 fn earlier_not_below(
-    heights: &mut Vec<u64>,
+    maxima: &mut Vec<u64>,
     history: &History,
     name: OpName,
 ) -> Result<Option<OpName>, AllocError>
-    requires { AreHeights history.now.sessions name.client heights.old.items }
-    ensures heights { OnOk result (AreHeights history.now.sessions name.client heights.new.items) }
+    requires { AreMaxima history.now.sessions name.client maxima.old.items }
+    ensures maxima { OnOk result (AreMaxima history.now.sessions name.client maxima.new.items) }
     ensures first { IfOk result (λ found. IfSome found (λ e. IsNotAbove history.now.sessions name e)) }
     ensures none { IfOk result (λ found. IfNone found ((e : OpName) → ¬ IsNotBelow history.now.sessions e name)) }
 {
     if history.is_session_above(name.client) {
         return Ok(None);
     }
-    climb(heights, history, name.client, name.index)?;
-    Ok(first_not_below(history, heights.as_slice(), name))
+    climb(maxima, history, name.client, name.index)?;
+    Ok(first_not_below(history, maxima.as_slice(), name))
 }
 
 /// The puts among these names that are not above what their sessions saw, each with the first earlier operation whose
@@ -119,14 +119,14 @@ pub fn not_above(
     ensures { IfOk result (λ v. ListsAmong (λ f. f.op) (λ f. IsNotAbove history.now.sessions f.op f.earlier) names.now v.items) }
 {
     let mut faults = Vec::new(alloc);
-    let mut heights = Vec::new(alloc);
+    let mut maxima = Vec::new(alloc);
     let mut client = 0;
     for name in names {
         if name.client != client {
-            heights.clear();
+            maxima.clear();
         }
         client = name.client;
-        let found = earlier_not_below(&mut heights, history, *name)?;
+        let found = earlier_not_below(&mut maxima, history, *name)?;
         if let Some(earlier) = found {
             faults.push(NotAbove { op: *name, earlier })?;
         }

@@ -2,12 +2,12 @@ ghost use Rattle.cops_types.specs.declared.limits.TheConstants.{MAX_CLIENT_OPS, 
 ghost use Rattle.std.specs.Prelude.{◌≡◌, ◌<◌, ◌≤◌, ◌+◌, ℕ, List, IfOk, IfSome, IsTrue, OnOk, Some, length, map, replicate, slice_index, slice_index_or, vec_len, []};
 ghost use Rattle.cops_audit.specs.Clocks.{AreClocks, AreKnown, ArePassed, KnowsPut};
 ghost use Rattle.cops_types.specs.declared.op.OpName.{OpName};
-ghost use Rattle.cops_audit.specs.Notes.{StandsAt, note_at};
+ghost use Rattle.cops_audit.specs.Summaries.{StandsAt, summary_at};
 ghost use Rattle.cops_audit.specs.Sweeps.{AreRising};
-ghost use Rattle.cops_audit.specs.declared.notes.Note.{Note as ANote};
+ghost use Rattle.cops_audit.specs.declared.summaries.Summary.{Summary as ASummary};
 ghost use Rattle.cops_types.specs.declared.versioned_put.VersionedPut.{VersionedPut as APut};
 
-use crate::notes::{Note, Notes, Seen};
+use crate::summaries::{OpPlace, Summaries, Summary};
 use cops_types::VersionedPut;
 use std::alloc::{AllocError, Global};
 
@@ -17,8 +17,8 @@ const MOST_RECENT: usize = 16_384;
 /// The greatest number of counts in all these clocks together.
 const RECENT_COUNTS: usize = 524_288;
 
-/// A checkpoint is kept after each `STAGE` puts.
-pub const STAGE: usize = 64;
+/// A checkpoint is kept after each `CHECKPOINT` puts.
+pub const CHECKPOINT: usize = 64;
 
 /// For each session, an upper bound on how many of its first operations are known to the puts at the places `from` to
 /// `below - 1`.
@@ -38,7 +38,7 @@ pub struct Clocks {
     pub passed: Vec<u32>,
     pub known: Vec<Vec<u32>>,
     recent: Vec<Known>,
-    stages: Vec<Known>,
+    checkpoints: Vec<Known>,
 }
 
 /// Raises each count to the other one where that is higher.
@@ -66,9 +66,9 @@ fn counts_in<'a>(known: &'a Known, place: u32) -> Option<&'a [u32]>
 
 /// An upper bound on the clock of the put at a place, from the recent clocks or from a checkpoint, if one of them
 /// covers it.
-fn counts_at<'a>(recent: &'a [Known], stages: &'a [Known], place: u32) -> Option<&'a [u32]>
-    ensures { (table : List APut) (notes : List (List ANote)) → AreKnown table notes recent.now → AreKnown table notes stages.now
-        → IfSome result (λ counts. (length counts.now ≡ length notes) × KnowsPut table notes counts.now place) }
+fn counts_at<'a>(recent: &'a [Known], checkpoints: &'a [Known], place: u32) -> Option<&'a [u32]>
+    ensures { (table : List APut) (summaries : List (List ASummary)) → AreKnown table summaries recent.now → AreKnown table summaries checkpoints.now
+        → IfSome result (λ counts. (length counts.now ≡ length summaries) × KnowsPut table summaries counts.now place) }
 {
     let at = place as usize % recent.len().max(1);
     if let Some(known) = recent.get(at) {
@@ -76,7 +76,7 @@ fn counts_at<'a>(recent: &'a [Known], stages: &'a [Known], place: u32) -> Option
             return Some(counts);
         }
     }
-    match stages.get(place as usize / STAGE) {
+    match checkpoints.get(place as usize / CHECKPOINT) {
         Some(known) => counts_in(known, place),
         None => None,
     }
@@ -85,8 +85,8 @@ fn counts_at<'a>(recent: &'a [Known], stages: &'a [Known], place: u32) -> Option
 /// Keeps the clock of the put at a place, in place of an earlier put's. It keeps none where `recent` is empty.
 fn remember(recent: &mut Vec<Known>, place: u32, counts: &[u32]) -> Result<(), AllocError>
     requires { place < MAX_OPS }
-    ensures { (table : List APut) (notes : List (List ANote)) → AreKnown table notes recent.old.items → length counts.now ≡ length notes → KnowsPut table notes counts.now place
-        → OnOk result (AreKnown table notes recent.new.items) }
+    ensures { (table : List APut) (summaries : List (List ASummary)) → AreKnown table summaries recent.old.items → length counts.now ≡ length summaries → KnowsPut table summaries counts.now place
+        → OnOk result (AreKnown table summaries recent.new.items) }
 {
     let at = place as usize % recent.len().max(1);
     if at < recent.len() {
@@ -108,7 +108,7 @@ fn zeros(alloc: Global, count: usize) -> Result<Vec<u32>, AllocError>
 
 /// `count` clocks that cover no put.
 fn nothing_known(alloc: Global, count: usize, clients: usize) -> Result<Vec<Known>, AllocError>
-    ensures { (table : List APut) (notes : List (List ANote)) → length notes ≡ clients → IfOk result (λ v. AreKnown table notes v.items) }
+    ensures { (table : List APut) (summaries : List (List ASummary)) → length summaries ≡ clients → IfOk result (λ v. AreKnown table summaries v.items) }
 {
     let mut all = Vec::with_capacity(alloc, count)?;
     for _ in 0..count {
@@ -137,7 +137,7 @@ fn nothing_counted(alloc: Global, clients: usize) -> Result<Vec<Vec<u32>>, Alloc
 impl Clocks {
     /// The clocks of `clients` clients and `puts` puts, before anything is passed.
     pub fn new(alloc: Global, clients: usize, puts: usize) -> Result<Self, AllocError>
-        ensures { (table : List APut) (notes : List (List ANote)) → length notes ≡ clients → IfOk result (AreClocks table notes) }
+        ensures { (table : List APut) (summaries : List (List ASummary)) → length summaries ≡ clients → IfOk result (AreClocks table summaries) }
     {
         let kept = (RECENT_COUNTS / clients.max(1)).min(MOST_RECENT).min(puts);
         let recent = nothing_known(alloc, kept, clients)?;
@@ -147,7 +147,7 @@ impl Clocks {
             passed,
             known,
             recent,
-            stages: Vec::new(alloc),
+            checkpoints: Vec::new(alloc),
         })
     }
 
@@ -155,12 +155,12 @@ impl Clocks {
     /// kept.
     fn learn(&mut self, client: usize, place: u32) -> bool
         requires client { client < length self.old.known.items }
-        requires clocks { (table : List APut) × (notes : List (List ANote)) × AreClocks table notes self.old }
-        ensures learned { (table : List APut) (notes : List (List ANote)) → AreClocks table notes self.old → IsTrue result
-            → AreClocks table notes self.new × KnowsPut table notes (slice_index_or (map (λ v. v.items) self.new.known.items) client []) place }
+        requires clocks { (table : List APut) × (summaries : List (List ASummary)) × AreClocks table summaries self.old }
+        ensures learned { (table : List APut) (summaries : List (List ASummary)) → AreClocks table summaries self.old → IsTrue result
+            → AreClocks table summaries self.new × KnowsPut table summaries (slice_index_or (map (λ v. v.items) self.new.known.items) client []) place }
         ensures passed { self.new.passed ≡ self.old.passed }
     {
-        match counts_at(self.recent.as_slice(), self.stages.as_slice(), place) {
+        match counts_at(self.recent.as_slice(), self.checkpoints.as_slice(), place) {
             Some(counts) => {
                 raise_all(&mut self.known[client], counts);
                 true
@@ -171,16 +171,16 @@ impl Clocks {
 
     /// Raises a session's clock by what its next operation saw. Returns false where that is a put that was not passed
     /// before, or whose clock is not kept.
-    fn learn_seen(&mut self, table: &[VersionedPut], client: usize, seen: Seen) -> bool
+    fn learn_seen(&mut self, table: &[VersionedPut], client: usize, seen: OpPlace) -> bool
         requires client { client < length self.old.known.items }
-        requires clocks { (notes : List (List ANote)) × AreRising table.now notes × AreClocks table.now notes self.old }
-        requires inside { (place : ℕ) → seen ≡ Seen.Got place → (put : OpName) × (version : ℕ) × StandsAt table.now place put version }
-        ensures learned { (notes : List (List ANote)) → AreClocks table.now notes self.old → IsTrue result
-            → AreClocks table.now notes self.new × ((place : ℕ) → seen ≡ Seen.Got place
-            → KnowsPut table.now notes (slice_index_or (map (λ v. v.items) self.new.known.items) client []) place × KnowsPut table.now notes self.new.passed.items place) }
+        requires clocks { (summaries : List (List ASummary)) × AreRising table.now summaries × AreClocks table.now summaries self.old }
+        requires inside { (place : ℕ) → seen ≡ OpPlace.Got place → (put : OpName) × (version : ℕ) × StandsAt table.now place put version }
+        ensures learned { (summaries : List (List ASummary)) → AreClocks table.now summaries self.old → IsTrue result
+            → AreClocks table.now summaries self.new × ((place : ℕ) → seen ≡ OpPlace.Got place
+            → KnowsPut table.now summaries (slice_index_or (map (λ v. v.items) self.new.known.items) client []) place × KnowsPut table.now summaries self.new.passed.items place) }
         ensures passed { self.new.passed ≡ self.old.passed }
     {
-        let Seen::Got(place) = seen else {
+        let OpPlace::Got(place) = seen else {
             return true;
         };
         let put = table[place as usize].name;
@@ -193,12 +193,12 @@ impl Clocks {
     /// Counts the next operation of a client, whose session's clock already includes what it saw.
     fn count_next(&mut self, client: usize)
         requires client { client < length self.old.known.items }
-        requires clocks { (table : List APut) × (notes : List (List ANote)) × AreClocks table notes self.old }
+        requires clocks { (table : List APut) × (summaries : List (List ASummary)) × AreClocks table summaries self.old }
         requires few { slice_index self.old.passed.items client < MAX_CLIENT_OPS }
-        ensures clocks { (table : List APut) (notes : List (List ANote)) → AreClocks table notes self.old
-            → ((place mark : ℕ) → note_at notes (record { client = client; index = slice_index self.old.passed.items client }) ≡ Some (record { seen = Seen.Got place; mark = mark })
-            → KnowsPut table notes (slice_index_or (map (λ v. v.items) self.old.known.items) client []) place × KnowsPut table notes self.old.passed.items place)
-            → AreClocks table notes self.new }
+        ensures clocks { (table : List APut) (summaries : List (List ASummary)) → AreClocks table summaries self.old
+            → ((place mark : ℕ) → summary_at summaries (record { client = client; index = slice_index self.old.passed.items client }) ≡ Some (record { seen = OpPlace.Got place; mark = mark })
+            → KnowsPut table summaries (slice_index_or (map (λ v. v.items) self.old.known.items) client []) place × KnowsPut table summaries self.old.passed.items place)
+            → AreClocks table summaries self.new }
         ensures next { slice_index self.new.passed.items client ≡ slice_index self.old.passed.items client + 1 }
         ensures kept { (k : ℕ) → slice_index self.old.passed.items k ≤ slice_index self.new.passed.items k }
     {
@@ -208,29 +208,29 @@ impl Clocks {
         known[client] = known[client].max(count);
     }
 
-    /// Passes the next operation of a client, whose causal summary is `note`. Returns false where it got a put that was
+    /// Passes the next operation of a client, whose causal summary is `summary`. Returns false where it got a put that was
     /// not passed before, or whose clock is not kept.
     pub fn pass(
         &mut self,
         table: &[VersionedPut],
-        notes: &Notes,
+        summaries: &Summaries,
         client: usize,
-        note: Note,
+        summary: Summary,
     ) -> Result<bool, AllocError>
-        requires client { client < length notes.now }
-        requires rising { AreRising table.now notes.now }
-        requires clocks { AreClocks table.now notes.now self.old }
-        requires noted { note_at notes.now (record { client = client; index = slice_index self.old.passed.items client }) ≡ Some note }
-        ensures clocks { IfOk result (λ went. IsTrue went → AreClocks table.now notes.now self.new) }
+        requires client { client < length summaries.now }
+        requires rising { AreRising table.now summaries.now }
+        requires clocks { AreClocks table.now summaries.now self.old }
+        requires summarized { summary_at summaries.now (record { client = client; index = slice_index self.old.passed.items client }) ≡ Some summary }
+        ensures clocks { IfOk result (λ went. IsTrue went → AreClocks table.now summaries.now self.new) }
         ensures next { IfOk result (λ went. IsTrue went → slice_index self.new.passed.items client ≡ slice_index self.old.passed.items client + 1) }
         ensures kept { IfOk result (λ went. IsTrue went → (k : ℕ) → slice_index self.old.passed.items k ≤ slice_index self.new.passed.items k) }
     {
-        let _ = notes;
-        if !self.learn_seen(table, client, note.seen) {
+        let _ = summaries;
+        if !self.learn_seen(table, client, summary.seen) {
             return Ok(false);
         }
         self.count_next(client);
-        if let Seen::Put(place) = note.seen {
+        if let OpPlace::Put(place) = summary.seen {
             remember(&mut self.recent, place, self.known[client].as_slice())?;
         }
         Ok(true)
@@ -238,12 +238,12 @@ impl Clocks {
 
     /// Keeps what is passed as a checkpoint, once the puts below the place `below` are passed.
     pub fn keep_passed(&mut self, alloc: Global, below: u32) -> Result<(), AllocError>
-        ensures clocks { (table : List APut) (notes : List (List ANote)) → AreClocks table notes self.old → ArePassed table self.old.passed.items below → OnOk result (AreClocks table notes self.new) }
+        ensures clocks { (table : List APut) (summaries : List (List ASummary)) → AreClocks table summaries self.old → ArePassed table self.old.passed.items below → OnOk result (AreClocks table summaries self.new) }
         ensures passed { OnOk result (self.new.passed ≡ self.old.passed) }
     {
         let mut counts = Vec::with_capacity(alloc, self.passed.len())?;
         counts.extend_from_slice(self.passed.as_slice())?;
-        self.stages.push(Known {
+        self.checkpoints.push(Known {
             from: 0,
             below,
             counts,

@@ -4,7 +4,7 @@ ghost use Rattle.cops_types.specs.Recorded.{IsWithinLimits};
 ghost use Rattle.cops_types.specs.Verdicts.{AllAbove, AllHaveSources};
 ghost use Rattle.cops_types.specs.Faults.{HasNoSource, IsNotAbove, IsStale, Lists};
 ghost use Rattle.cops_audit.specs.Placing.{ArePutPlaces};
-ghost use Rattle.cops_audit.specs.Rooms.{IsNotedIn, IsReady, IsSuspected};
+ghost use Rattle.cops_audit.specs.Rooms.{IsSummarizedIn, IsReady, IsSuspected};
 ghost use Rattle.cops_audit.specs.SoFar.{HaveSourcesOrWait};
 ghost use Rattle.cops_audit.specs.Tables.{IsVersionTable};
 ghost use Rattle.cops_audit.specs.Verdicts.{IsVerdict};
@@ -13,11 +13,11 @@ use crate::cleared::clear;
 use crate::climbing::not_above;
 use crate::floors::set_floors;
 use crate::names::all_names;
-use crate::notes::{Notes, SessionNotes};
 use crate::put_places::set_places;
-use crate::room::Room;
+use crate::room::Scratch;
 use crate::sources::{find_sources, without_source};
 use crate::stale::stale_suspects;
+use crate::summaries::{SessionSummaries, Summaries};
 use crate::table::{doubled, is_rising, put_names, set_puts};
 use crate::verdict::{Faults, NotAbove, Stale, Verdict};
 use cops_types::{History, OpName, VersionedPut};
@@ -56,19 +56,19 @@ fn all_not_above(alloc: Global, history: &History) -> Result<Vec<NotAbove>, Allo
     Ok(faults)
 }
 
-impl Room {
+impl Scratch {
     /// Removes suspects for which `clear` shows that no newer put is in their past.
     fn clear_suspects(
         &mut self,
         alloc: Global,
         history: &History,
-        notes: &Notes,
+        summaries: &Summaries,
     ) -> Result<(), AllocError>
-        requires suspected { IsSuspected history.now.sessions self.old notes.now }
-        requires noted { IsNotedIn history.now.sessions self.old notes.now }
+        requires suspected { IsSuspected history.now.sessions self.old summaries.now }
+        requires summarized { IsSummarizedIn history.now.sessions self.old summaries.now }
         requires sources { HaveSourcesOrWait history.now.sessions }
         requires above { AllAbove history.now.sessions }
-        ensures suspected { OnOk result (IsSuspected history.now.sessions self.new notes.now) }
+        ensures suspected { OnOk result (IsSuspected history.now.sessions self.new summaries.now) }
         ensures table { OnOk result (self.new.table ≡ self.old.table) }
     {
         let table = self.table.as_slice();
@@ -79,7 +79,7 @@ impl Room {
             alloc,
             history,
             table,
-            notes,
+            summaries,
             nexts,
             firsts,
         )?;
@@ -93,17 +93,17 @@ impl Room {
         &mut self,
         alloc: Global,
         history: &History,
-        notes: &Notes,
+        summaries: &Summaries,
     ) -> Result<Vec<Stale>, AllocError>
-        requires noted { IsNotedIn history.now.sessions self.old notes.now }
+        requires summarized { IsSummarizedIn history.now.sessions self.old summaries.now }
         requires places { ArePutPlaces history.now.puts self.old.table.items self.old.places.items }
         requires sources { AllHaveSources history.now.sessions }
         requires above { AllAbove history.now.sessions }
         ensures stale { IfOk result (λ v. Lists (λ f. f.op) (λ f. IsStale history.now.sessions f.op f.newer) v.items) }
         ensures table { OnOk result (self.new.table ≡ self.old.table) }
     {
-        self.suspect(history, notes)?;
-        self.clear_suspects(alloc, history, notes)?;
+        self.suspect(history, summaries)?;
+        self.clear_suspects(alloc, history, summaries)?;
         // The places and the links are dropped before the sweep allocates memory.
         self.places = Vec::new(alloc);
         self.nexts = Vec::new(alloc);
@@ -117,7 +117,7 @@ impl Room {
             &mut self.sweep,
             history,
             table,
-            notes,
+            summaries,
             firsts,
             suspects,
             floors,
@@ -168,9 +168,9 @@ impl Room {
         set_places(&mut self.places, history, table)?;
         let places = self.places.as_slice();
         let sources = sources.places.as_slice();
-        let session_notes = SessionNotes::new(alloc, history, table, places, sources)?;
-        let notes = session_notes.look();
-        let stale = self.stale(alloc, history, &notes)?;
+        let session_summaries = SessionSummaries::new(alloc, history, table, places, sources)?;
+        let summaries = session_summaries.look();
+        let stale = self.stale(alloc, history, &summaries)?;
         if !stale.is_empty() {
             return Ok(Verdict::Refused(Faults::Stale(stale)));
         }

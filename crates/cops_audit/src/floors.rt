@@ -2,9 +2,9 @@ ghost use Rattle.std.specs.Prelude.{◌≡◌, ◌<◌, ◌≤◌, ◌+◌, ◌-
 ghost use Rattle.cops_types.specs.Faults.{IsBefore};
 ghost use Rattle.cops_audit.specs.declared.window.Suspect.{Suspect};
 ghost use Rattle.cops_audit.specs.Sweeps.{ArePlaces, AreRising, HasRoom, IsNewestIn, NoneFrom};
-ghost use Rattle.cops_audit.specs.Floors.{AreFloors, IsAfter, IsNotedSuspect};
+ghost use Rattle.cops_audit.specs.Floors.{AreFloors, IsAfter, IsSummarizedSuspect};
 
-use crate::notes::Notes;
+use crate::summaries::Summaries;
 use crate::sweep::Sweep;
 use crate::window::Suspect;
 use cops_types::VersionedPut;
@@ -61,28 +61,28 @@ fn follows(suspects: &[Suspect], k: usize) -> bool
 pub fn judge_next(
     sweep: &mut Sweep,
     table: &[VersionedPut],
-    notes: &Notes,
+    summaries: &Summaries,
     firsts: &[u32],
     suspects: &[Suspect],
     floors: &[u32],
     k: usize,
 ) -> Result<Option<u32>, AllocError>
-    requires rising { AreRising table.now notes.now }
+    requires rising { AreRising table.now summaries.now }
     requires firsts { ArePlaces table.now firsts.now }
     requires floors { AreFloors suspects.now floors.now }
     requires in_order { AllPairs (λ s t. IsBefore s.op t.op) suspects.now }
     requires inside { k < length suspects.now }
-    requires noted { (d : Suspect) → IsNotedSuspect notes.now (slice_index_or suspects.now k d) }
-    requires after { IsAfter table.now notes.now firsts.now suspects.now floors.now k sweep.old }
-    ensures after { OnOk result (IsAfter table.now notes.now firsts.now suspects.now floors.now (k + 1) sweep.new) }
-    ensures found { IfOk result (λ found. IfSome found (λ place. (d : Suspect) → ((slice_index_or suspects.now k d).from ≤ place) × IsNewestIn table.now notes.now firsts.now (slice_index_or suspects.now k d).op (slice_index_or suspects.now k d).first place)) }
-    ensures none { IfOk result (λ found. IfNone found ((d : Suspect) → NoneFrom table.now notes.now firsts.now (slice_index_or suspects.now k d).op (slice_index_or suspects.now k d).first (slice_index_or suspects.now k d).from)) }
-    ensures room { (space : ℕ) → HasRoom space (map length notes.now) sweep.old
-        → IsOk result × HasRoom space (map length notes.now) sweep.new }
+    requires summarized { (d : Suspect) → IsSummarizedSuspect summaries.now (slice_index_or suspects.now k d) }
+    requires after { IsAfter table.now summaries.now firsts.now suspects.now floors.now k sweep.old }
+    ensures after { OnOk result (IsAfter table.now summaries.now firsts.now suspects.now floors.now (k + 1) sweep.new) }
+    ensures found { IfOk result (λ found. IfSome found (λ place. (d : Suspect) → ((slice_index_or suspects.now k d).from ≤ place) × IsNewestIn table.now summaries.now firsts.now (slice_index_or suspects.now k d).op (slice_index_or suspects.now k d).first place)) }
+    ensures none { IfOk result (λ found. IfNone found ((d : Suspect) → NoneFrom table.now summaries.now firsts.now (slice_index_or suspects.now k d).op (slice_index_or suspects.now k d).first (slice_index_or suspects.now k d).from)) }
+    ensures room { (space : ℕ) → HasRoom space (map length summaries.now) sweep.old
+        → IsOk result × HasRoom space (map length summaries.now) sweep.new }
 {
     if !follows(suspects, k) {
         sweep.restart();
     }
-    let found = sweep.newest_in_past(table, notes, firsts, floors[k], suspects[k])?;
+    let found = sweep.newest_in_past(table, summaries, firsts, floors[k], suspects[k])?;
     Ok(found)
 }

@@ -3,7 +3,7 @@ ghost use Rattle.std.specs.Prelude.{◌≡◌, ◌≢◌, ◌<◌, ◌≤◌, �
 ghost use Rattle.cops_types.specs.declared.versioned_put.VersionedPut.{VersionedPut};
 ghost use Rattle.cops_audit.specs.Tables.{VersionsNeverFall};
 
-use crate::did::Did;
+use crate::op_version::OpVersion;
 use crate::put_places::NO_PLACE;
 use crate::table::place_of;
 use cops_types::{Version, VersionedPut};
@@ -29,26 +29,26 @@ const MANY: usize = 16_384;
 /// is kept. The index gives only hints: the caller looks in the table, and searches the whole table where the version
 /// is not at the hint.
 #[derive(Drop)]
-pub struct Stretches {
+pub struct Buckets {
     lowest: u64,
     shift: u32,
     starts: Vec<u32>,
 }
 
-impl Stretches {
+impl Buckets {
     /// The buckets of a table for `count` lookups: none where these are few or memory runs out.
     pub fn new(alloc: Global, table: &[VersionedPut], count: usize) -> Self
         requires { length table.now ≤ MAX_OPS }
     {
-        let mut stretches = Stretches {
+        let mut buckets = Buckets {
             lowest: 0,
             shift: 0,
             starts: Vec::new(alloc),
         };
-        if count >= MANY && stretches.make(table).is_err() {
-            stretches.starts.clear();
+        if count >= MANY && buckets.make(table).is_err() {
+            buckets.starts.clear();
         }
-        stretches
+        buckets
     }
 
     /// Builds the buckets of a table.
@@ -60,9 +60,9 @@ impl Stretches {
             self.shift = shift_for(self.offset(last.version), table.len() as u64);
         }
         for place in 0..table.len() {
-            let stretch = self.stretch(table[place].version);
-            if self.starts.len() <= stretch {
-                self.starts.resize(stretch.saturating_add(1), place as u32)?;
+            let bucket = self.bucket(table[place].version);
+            if self.starts.len() <= bucket {
+                self.starts.resize(bucket.saturating_add(1), place as u32)?;
             }
         }
         self.starts.push(table.len() as u32)?;
@@ -75,7 +75,7 @@ impl Stretches {
     }
 
     /// The bucket that a version is in.
-    fn stretch(&self, version: Version) -> usize {
+    fn bucket(&self, version: Version) -> usize {
         self.offset(version).wrapping_shr(self.shift) as usize
     }
 
@@ -83,11 +83,11 @@ impl Stretches {
     pub fn hint(&self, table: &[VersionedPut], version: Version) -> u32
         requires { length table.now ≤ MAX_OPS }
     {
-        let stretch = self.stretch(version);
-        let Some(start) = self.starts.get(stretch) else {
+        let bucket = self.bucket(version);
+        let Some(start) = self.starts.get(bucket) else {
             return NO_PLACE;
         };
-        let Some(end) = self.starts.get(stretch.saturating_add(1)) else {
+        let Some(end) = self.starts.get(bucket.saturating_add(1)) else {
             return NO_PLACE;
         };
         first_within(table, *start, *end, version)
@@ -127,8 +127,8 @@ const WIDTHS: [usize; 3] = [16, 256, 4096];
 
 /// A hint for the version that was put or got, from the puts near a place. It is `NO_PLACE` where there is no version
 /// or it is not near.
-pub fn hint_near(table: &[VersionedPut], did: &Did, place: u32) -> u32 {
-    let Some(version) = did.version() else {
+pub fn hint_near(table: &[VersionedPut], op_version: &OpVersion, place: u32) -> u32 {
+    let Some(version) = op_version.version() else {
         return NO_PLACE;
     };
     let version = version.as_u64();

@@ -64,8 +64,8 @@ pub fn set_keys(
 {
     keys.clear();
     keys.resize(table.len(), 0)?;
-    for told in places {
-        let place = *told as usize;
+    for reported in places {
+        let place = *reported as usize;
         if place < table.len() {
             let put = &table[place];
             keys[place] = number_of(history, put.name);

@@ -10,12 +10,11 @@
 #![tactic(auto)]
 
 mod assessing;
-mod beside;
 mod cleared;
 mod climbing;
 mod clocks;
 mod concluding;
-mod did;
+mod epochs;
 mod fault;
 mod feed_fault;
 mod flat;
@@ -27,18 +26,19 @@ mod keys;
 mod laws;
 mod links;
 mod names;
-mod notes;
 mod online;
+mod op_version;
+mod parallel;
 mod put_places;
 mod puts;
 mod room;
 mod search;
 mod sources;
 mod stale;
+mod summaries;
 mod sweep;
 mod table;
 mod tables;
-mod tally;
 mod verdict;
 mod window;
 

@@ -1,7 +1,7 @@
 use crate::feed_fault::FeedFault;
-use crate::flat::FlatNotes;
+use crate::flat::FlatSummaries;
 use crate::judged::Judged;
-use crate::room::Room;
+use crate::room::Scratch;
 use crate::verdict::{SoFar, Verdict};
 use cops_types::{History, Memory, Op, OpView};
 use std::alloc::Global;
@@ -14,8 +14,8 @@ use std::marker::Model;
 pub struct Online {
     alloc: Global,
     history: History,
-    room: Room,
-    notes: FlatNotes,
+    room: Scratch,
+    summaries: FlatSummaries,
 }
 
 impl Model for Online {
@@ -26,7 +26,7 @@ impl Model for Online {
 
     ghost view = { λ a. a.history.sessions };
 
-    ghost invariant = { λ a. Fits a.history.sessions a.room a.notes };
+    ghost invariant = { λ a. Fits a.history.sessions a.room a.summaries };
 }
 
 impl Online {
@@ -44,13 +44,13 @@ impl Online {
         ensures { IfOk result (λ online. online ≡ replicate clients []) }
     {
         let history = History::new(alloc, clients)?;
-        let room = Room::new(alloc, clients)?;
-        let notes = FlatNotes::new(alloc, clients)?;
+        let room = Scratch::new(alloc, clients)?;
+        let summaries = FlatSummaries::new(alloc, clients)?;
         Ok(Online {
             alloc,
             history,
             room,
-            notes,
+            summaries,
         })
     }
 
@@ -68,7 +68,7 @@ impl Online {
             drop(op);
             return Err(FeedFault::of(fault));
         }
-        if self.room.grow(&mut self.notes, &self.history).is_err() {
+        if self.room.grow(&mut self.summaries, &self.history).is_err() {
             drop(op);
             return Err(FeedFault::Memory);
         }
@@ -80,7 +80,7 @@ impl Online {
 
     /// Like `feed`, but takes a borrowed operation and copies only what of it is new. The errors are those of `feed`.
     #[inline(always)]
-    pub fn feed_seen(&mut self, client: u16, op: &OpView<'_>) -> Result<(), FeedFault>
+    pub fn feed_borrowed(&mut self, client: u16, op: &OpView<'_>) -> Result<(), FeedFault>
         ensures ok { OnOk result (self.new ≡ with_op self.old client (viewed op.now)) }
         ensures err { OnErr result (self.new ≡ self.old) }
         ensures unknown { IsErrOf result FeedFault.UnknownClient ↔ (length self.old ≤ client) }
@@ -89,27 +89,27 @@ impl Online {
         if let Err(fault) = self.history.reserve(client) {
             return Err(FeedFault::of(fault));
         }
-        if self.room.grow(&mut self.notes, &self.history).is_err() {
+        if self.room.grow(&mut self.summaries, &self.history).is_err() {
             return Err(FeedFault::Memory);
         }
-        match self.history.push_seen(client, op) {
+        match self.history.push_borrowed(client, op) {
             Ok(()) => {}
             Err(Memory) => return Err(FeedFault::Memory),
         }
         Ok(())
     }
 
-    /// Whether it is worth prefetching operations with `foresee`.
+    /// Whether it is worth prefetching operations with `prefetch`.
     pub fn looks_ahead(&self) -> bool {
         self.history.looks_ahead()
     }
 
     /// Prefetches the memory that the coming operations will need, if they are fed next and in this order. It changes
     /// no answer.
-    pub fn foresee(&mut self, coming: &[OpView<'_>])
+    pub fn prefetch(&mut self, coming: &[OpView<'_>])
         ensures { self.new ≡ self.old }
     {
-        self.history.foresee(coming);
+        self.history.prefetch(coming);
     }
 
     /// The history of what was fed.
@@ -117,7 +117,7 @@ impl Online {
         ensures { result.sessions ≡ self }
     {
         let Online { mut history, .. } = self;
-        history.forget_guesses();
+        history.forget_candidates();
         history
     }
 
@@ -126,7 +126,7 @@ impl Online {
         ensures so_far { IsSoFar self.old result }
         ensures same { self.new ≡ self.old }
     {
-        match self.room.assess(&mut self.notes, &self.history) {
+        match self.room.assess(&mut self.summaries, &self.history) {
             Ok(so_far) => so_far,
             Err(_) => unreachable!(),
         }
@@ -150,12 +150,12 @@ impl Online {
             alloc,
             mut history,
             mut room,
-            notes,
+            summaries,
         } = self;
-        history.forget_guesses();
+        history.forget_candidates();
         // The memory that is reserved for summaries is freed before `judge` builds them for all operations at once, in
         // rounds, which is faster.
-        drop(notes);
+        drop(summaries);
         let verdict = room.judge(alloc, &history)?;
         Ok(Judged::new(history, verdict))
     }

@@ -77,7 +77,7 @@ impl<'a> Puts<'a> {
 
     /// Like `new`, but with at most `threads` threads: with two or more, the names are listed in parallel with the
     /// puts. The only error is `AllocError`, where memory runs out.
-    pub fn beside<R: Threads + Sync>(
+    pub fn parallel<R: Threads + Sync>(
         rt: &R,
         alloc: Global,
         history: &'a History,

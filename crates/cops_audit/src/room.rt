@@ -2,8 +2,8 @@ ghost use Rattle.cops_types.specs.declared.limits.TheConstants.{MAX_OPS};
 ghost use Rattle.std.specs.Prelude.{◌≤◌, IfOk, OnOk, replicate, vec_capacity, [], ◌≡◌};
 ghost use Rattle.cops_audit.specs.Rooms.{IsReady};
 
-use crate::flat::FlatNotes;
-use crate::sweep::{Range, Sweep};
+use crate::flat::FlatSummaries;
+use crate::sweep::{OpRange, Sweep};
 use crate::window::Suspect;
 use cops_types::{History, OpName, VersionedPut};
 use std::alloc::{AllocError, Global};
@@ -12,7 +12,7 @@ use std::alloc::{AllocError, Global};
 /// summaries 96 bytes for each operation. A vector doubles as it grows, so up to twice as much may be reserved. The
 /// memory is not touched until the search.
 #[derive(Drop)]
-pub struct Room {
+pub struct Scratch {
     /// The number of operations that the capacity is for.
     pub space: usize,
     pub names: Vec<OpName>,
@@ -40,7 +40,7 @@ fn make_room<T: Drop>(items: &mut Vec<T>, count: usize) -> Result<(), AllocError
     items.reserve(count)
 }
 
-impl Room {
+impl Scratch {
     ghost use Rattle.std.specs.Prelude.{◌<◌, ◌+◌, ℕ, OnErr, OnOk, length};
     ghost use Rattle.cops_types.specs.Histories.{Operation, with_op};
     ghost use Rattle.cops_audit.specs.Rooms.{Fits, HasSpace, IsSameButSpace};
@@ -51,7 +51,7 @@ impl Room {
         ensures space { IfOk result (λ room. room.space ≡ 0) }
     {
         let sweep = Sweep::new(alloc, clients as usize, 0)?;
-        Ok(Room {
+        Ok(Scratch {
             space: 0,
             names: Vec::new(alloc),
             table: Vec::new(alloc),
@@ -67,20 +67,20 @@ impl Room {
 
     /// Reserves capacity for `count` operations, which exceeds the present capacity, and a quarter more, at least for
     /// `LEAST_SPACE`.
-    fn reserve(&mut self, notes: &mut FlatNotes, count: usize) -> Result<(), AllocError>
+    fn reserve(&mut self, summaries: &mut FlatSummaries, count: usize) -> Result<(), AllocError>
         requires more { self.old.space < count }
         requires few { count ≤ MAX_OPS + 1 }
         requires space { HasSpace self.old.space self.old }
-        requires notes { self.old.space ≤ notes.old.note_room }
+        requires summaries { self.old.space ≤ summaries.old.summary_room }
         ensures ok { OnOk result (count ≤ self.new.space) }
         ensures space { HasSpace self.new.space self.new }
         ensures kept { self.old.space ≤ self.new.space }
         ensures same { IsSameButSpace self.old self.new }
-        ensures notes { self.new.space ≤ notes.new.note_room }
-        ensures sessions { notes.new.session_room ≡ notes.old.session_room }
+        ensures summaries { self.new.space ≤ summaries.new.summary_room }
+        ensures sessions { summaries.new.session_room ≡ summaries.old.session_room }
     {
         let space = (count + count / 4).max(LEAST_SPACE);
-        notes.reserve(space)?;
+        summaries.reserve(space)?;
         make_room(&mut self.names, space)?;
         make_room(&mut self.table, space)?;
         make_room(&mut self.places, space)?;
@@ -98,14 +98,18 @@ impl Room {
     }
 
     /// Reserves capacity for one more operation and its causal summary.
-    pub fn grow(&mut self, notes: &mut FlatNotes, history: &History) -> Result<(), AllocError>
-        requires { Fits history.now.sessions self.old notes.old }
-        ensures ok { (client : ℕ) (op : Operation) → client < length history.now.sessions → OnOk result (Fits (with_op history.now.sessions client op) self.new notes.new) }
-        ensures kept { Fits history.now.sessions self.new notes.new }
+    pub fn grow(
+        &mut self,
+        summaries: &mut FlatSummaries,
+        history: &History,
+    ) -> Result<(), AllocError>
+        requires { Fits history.now.sessions self.old summaries.old }
+        ensures ok { (client : ℕ) (op : Operation) → client < length history.now.sessions → OnOk result (Fits (with_op history.now.sessions client op) self.new summaries.new) }
+        ensures kept { Fits history.now.sessions self.new summaries.new }
     {
         let count = history.len() + 1;
         if self.space < count {
-            self.reserve(notes, count)?;
+            self.reserve(summaries, count)?;
         }
         Ok(())
     }

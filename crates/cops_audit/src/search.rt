@@ -7,7 +7,7 @@ ghost use Rattle.cops_audit.specs.Searches.{Finds, IsPast, ListsCounts, IsSearch
 ghost use Rattle.cops_audit.specs.Sweeps.{Counted, InRange, work_left};
 ghost use Rattle.cops_audit.specs.Tables.{IsPutTable};
 
-use crate::sweep::{Range, Sweep};
+use crate::sweep::{OpRange, Sweep};
 use crate::table::{first_from, puts_by_version};
 use cops_types::{History, Memory, OpName, VersionedPut};
 use std::alloc::{AllocError, Global};
@@ -62,7 +62,7 @@ fn look_through(
     search: &mut Sweep,
     history: &History,
     table: &[VersionedPut],
-    range: Range,
+    range: OpRange,
 ) -> Result<(), AllocError>
     requires table { IsPutTable history.now.sessions table.now }
     requires searching { IsSearching history.now.sessions search.old (InRange range) }

@@ -6,10 +6,10 @@ ghost use Rattle.cops_audit.specs.Names.{ListsAmong};
 ghost use Rattle.cops_audit.specs.Placing.{AreSources, IsSourcePlace};
 ghost use Rattle.cops_audit.specs.Tables.{IsVersionTable};
 
-use crate::did::Did;
-use crate::hints::{Stretches, hinted_place};
-use crate::notes::{Seen, see};
+use crate::hints::{Buckets, hinted_place};
+use crate::op_version::OpVersion;
 use crate::put_places::NO_PLACE;
+use crate::summaries::{OpPlace, see};
 use cops_types::{History, OpName, OpRef, VersionedPut};
 use std::alloc::{AllocError, Global};
 
@@ -38,7 +38,7 @@ impl Sources {
 fn source_place(
     history: &History,
     table: &[VersionedPut],
-    stretches: &Stretches,
+    buckets: &Buckets,
     number: u32,
 ) -> Option<u32>
     requires { IsVersionTable history.now.sessions table.now }
@@ -48,7 +48,7 @@ fn source_place(
     let OpRef::Got { version, .. } = got else {
         return None;
     };
-    let hint = stretches.hint(table, *version);
+    let hint = buckets.hint(table, *version);
     let place = hinted_place(table, hint, *version)?;
     let put = history.op(table[place].name)?;
     if put.is_source_of(&got) {
@@ -68,9 +68,9 @@ pub fn find_sources(
 {
     let count = history.open_gets();
     let mut places = Vec::with_capacity(alloc, count)?;
-    let stretches = Stretches::new(alloc, table, count);
+    let buckets = Buckets::new(alloc, table, count);
     for number in 0..count {
-        let Some(place) = source_place(history, table, &stretches, number as u32) else {
+        let Some(place) = source_place(history, table, &buckets, number as u32) else {
             return Ok(Sources {
                 places,
                 are_all: false,
@@ -95,8 +95,8 @@ fn is_sourceless(history: &History, table: &[VersionedPut], name: OpName) -> boo
     let Some(version) = history.got_version(name) else {
         return false;
     };
-    match see(history, table, NO_PLACE, name, &Did::Got(version)) {
-        Seen::Sourceless(_) => true,
+    match see(history, table, NO_PLACE, name, &OpVersion::Got(version)) {
+        OpPlace::Sourceless(_) => true,
         _ => false,
     }
 }

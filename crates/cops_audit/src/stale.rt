@@ -8,7 +8,7 @@ ghost use Rattle.cops_audit.specs.declared.window.Suspect.{Suspect};
 ghost use Rattle.cops_audit.specs.Keys.{AreFirsts, AreNexts};
 ghost use Rattle.cops_audit.specs.Links.{AreLinks};
 ghost use Rattle.cops_audit.specs.Names.{ListsAmong};
-ghost use Rattle.cops_audit.specs.Notes.{IsNoted};
+ghost use Rattle.cops_audit.specs.Summaries.{IsSummarized};
 ghost use Rattle.cops_audit.specs.Sweeps.{HasRoom, IsIdle};
 ghost use Rattle.cops_audit.specs.Tables.{IsVersionTable};
 ghost use Rattle.cops_audit.specs.Floors.{AreFloors};
@@ -18,7 +18,7 @@ use crate::cleared::clear;
 use crate::floors::{judge_next, set_floors};
 use crate::keys::passed_firsts;
 use crate::links::Links;
-use crate::notes::Notes;
+use crate::summaries::Summaries;
 use crate::sweep::Sweep;
 use crate::verdict::Stale;
 use crate::window::{Suspect, push_suspects};
@@ -32,13 +32,13 @@ pub fn stale_suspects(
     sweep: &mut Sweep,
     history: &History,
     table: &[VersionedPut],
-    notes: &Notes,
+    summaries: &Summaries,
     firsts: &[u32],
     suspects: &[Suspect],
     floors: &[u32],
 ) -> Result<Vec<Stale>, AllocError>
     requires table { IsVersionTable history.now.sessions table.now }
-    requires notes { IsNoted history.now.sessions table.now notes.now }
+    requires summaries { IsSummarized history.now.sessions table.now summaries.now }
     requires sources { HaveSourcesOrWait history.now.sessions }
     requires above { AllAbove history.now.sessions }
     requires firsts { AreFirsts history.now.sessions table.now firsts.now }
@@ -52,7 +52,7 @@ pub fn stale_suspects(
     let mut faults = Vec::new(alloc);
     for k in 0..suspects.len() {
         let op = suspects[k].op;
-        let found = judge_next(sweep, table, notes, firsts, suspects, floors, k)?;
+        let found = judge_next(sweep, table, summaries, firsts, suspects, floors, k)?;
         if let Some(place) = found {
             let put = &table[place as usize];
             faults.push(Stale {
@@ -70,13 +70,13 @@ fn judge_suspects(
     alloc: Global,
     history: &History,
     table: &[VersionedPut],
-    notes: &Notes,
+    summaries: &Summaries,
     nexts: &[u32],
     firsts: &[u32],
     suspects: Vec<Suspect>,
 ) -> Result<Vec<Stale>, AllocError>
     requires table { IsVersionTable history.now.sessions table.now }
-    requires notes { IsNoted history.now.sessions table.now notes.now }
+    requires summaries { IsSummarized history.now.sessions table.now summaries.now }
     requires sources { HaveSourcesOrWait history.now.sessions }
     requires above { AllAbove history.now.sessions }
     requires nexts { AreNexts history.now.sessions table.now nexts.now }
@@ -86,14 +86,14 @@ fn judge_suspects(
         → IfOk result (λ v. ListsAmong (λ f. f.op) (λ f. IsStale history.now.sessions f.op f.newer) names v.items) }
 {
     let mut left = suspects;
-    clear(&mut left, alloc, history, table, notes, nexts, firsts)?;
+    clear(&mut left, alloc, history, table, summaries, nexts, firsts)?;
     let suspects = left.as_slice();
     let mut floors = Vec::new(alloc);
     set_floors(&mut floors, suspects)?;
     let mut sweep = Sweep::new(alloc, history.clients(), table.len())?;
     let floors = floors.as_slice();
     let faults = stale_suspects(
-        alloc, &mut sweep, history, table, notes, firsts, suspects, floors,
+        alloc, &mut sweep, history, table, summaries, firsts, suspects, floors,
     )?;
     Ok(faults)
 }
@@ -103,12 +103,12 @@ pub fn stale_among(
     alloc: Global,
     history: &History,
     table: &[VersionedPut],
-    notes: &Notes,
+    summaries: &Summaries,
     links: &Links,
     names: &[OpName],
 ) -> Result<Vec<Stale>, AllocError>
     requires table { IsVersionTable history.now.sessions table.now }
-    requires notes { IsNoted history.now.sessions table.now notes.now }
+    requires summaries { IsSummarized history.now.sessions table.now summaries.now }
     requires sources { HaveSourcesOrWait history.now.sessions }
     requires above { AllAbove history.now.sessions }
     requires links { AreLinks history.now table.now links.now }
@@ -118,20 +118,20 @@ pub fn stale_among(
     let nexts = links.nexts.as_slice();
     let by_key = links.by_key.as_slice();
     let mut found = Vec::new(alloc);
-    push_suspects(&mut found, history, table, notes, nexts, by_key, names)?;
+    push_suspects(&mut found, history, table, summaries, nexts, by_key, names)?;
     if found.as_slice().is_empty() {
         return Ok(Vec::new(alloc));
     }
     if let Some(places) = &links.firsts {
         let places = places.as_slice();
-        return judge_suspects(alloc, history, table, notes, nexts, places, found);
+        return judge_suspects(alloc, history, table, summaries, nexts, places, found);
     }
     let places = passed_firsts(alloc, table, nexts)?;
     judge_suspects(
         alloc,
         history,
         table,
-        notes,
+        summaries,
         nexts,
         places.as_slice(),
         found,
@@ -144,13 +144,13 @@ pub fn has_stale(
     sweep: &mut Sweep,
     history: &History,
     table: &[VersionedPut],
-    notes: &Notes,
+    summaries: &Summaries,
     firsts: &[u32],
     suspects: &[Suspect],
     floors: &[u32],
 ) -> Result<bool, AllocError>
     requires table { IsVersionTable history.now.sessions table.now }
-    requires notes { IsNoted history.now.sessions table.now notes.now }
+    requires summaries { IsSummarized history.now.sessions table.now summaries.now }
     requires sources { HaveSourcesOrWait history.now.sessions }
     requires above { AllAbove history.now.sessions }
     requires firsts { AreFirsts history.now.sessions table.now firsts.now }
@@ -162,11 +162,11 @@ pub fn has_stale(
     ensures stale { IfOk result (λ found. IsTrue found → (name : OpName) × (newer : OpName) × IsStale history.now.sessions name newer) }
     ensures none { IfOk result (λ found. ¬ IsTrue found → (k : ℕ) (d : Suspect) → k < length suspects.now → (newer : OpName) (version : ℕ) → ¬ IsNewer history.now.sessions (slice_index_or suspects.now k d).op newer version) }
     ensures idle { OnOk result (IsIdle (length history.now.sessions) (length table.now) sweep.new) }
-    ensures room { (space : ℕ) → HasRoom space (map length notes.now) sweep.old
-        → IsOk result × HasRoom space (map length notes.now) sweep.new }
+    ensures room { (space : ℕ) → HasRoom space (map length summaries.now) sweep.old
+        → IsOk result × HasRoom space (map length summaries.now) sweep.new }
 {
     for k in 0..suspects.len() {
-        let found = judge_next(sweep, table, notes, firsts, suspects, floors, k)?;
+        let found = judge_next(sweep, table, summaries, firsts, suspects, floors, k)?;
         if let Some(_place) = found {
             return Ok(true);
         }

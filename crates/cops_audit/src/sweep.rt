@@ -1,19 +1,19 @@
 ghost use Rattle.cops_types.specs.declared.limits.TheConstants.{MAX_CLIENT_OPS, MAX_OPS};
 ghost use Rattle.std.specs.Prelude.{◌≡◌, ◌<◌, ◌≤◌, ◌+◌, ℕ, List, IfOk, IfSome, IfNone, IsOk, OnOk, IsTrue, Some, length, map, slice_index, []};
 ghost use Rattle.cops_types.specs.declared.op.OpName.{OpName};
-ghost use Rattle.cops_audit.specs.Notes.{above, StandsAt, note_at};
-ghost use Rattle.cops_audit.specs.declared.notes.Note.{Note};
+ghost use Rattle.cops_audit.specs.Summaries.{above, StandsAt, summary_at};
+ghost use Rattle.cops_audit.specs.declared.summaries.Summary.{Summary};
 ghost use Rattle.cops_audit.specs.Sweeps.{ArePlaces, AreRising, Covers, Grows, HasRoom, InRange, IsAbout, IsFresh, IsNewestIn, IsSweeping, NoneFrom, Learns, Raises, TakesPut, work_left};
 
-use crate::notes::{Note, Notes, Seen};
-use crate::tally::Tally;
+use crate::epochs::Epochs;
+use crate::summaries::{OpPlace, Summaries, Summary};
 use crate::window::Suspect;
 use cops_types::{OpName, VersionedPut};
 use std::alloc::{AllocError, Global};
 
 /// The operations of one client from the index `from` up to, not including, `to`.
 #[derive(Clone, Copy)]
-pub struct Range {
+pub struct OpRange {
     pub client: u16,
     pub from: u32,
     pub to: u32,
@@ -24,9 +24,9 @@ pub struct Range {
 /// still to be visited.
 #[derive(Drop)]
 pub struct Sweep {
-    pub counts: Tally,
-    pub newest: Tally,
-    pub pending: Vec<Range>,
+    pub counts: Epochs,
+    pub newest: Epochs,
+    pub pending: Vec<OpRange>,
 }
 
 impl Sweep {
@@ -34,8 +34,8 @@ impl Sweep {
     pub fn new(alloc: Global, clients: usize, puts: usize) -> Result<Self, AllocError>
         ensures { IfOk result (IsFresh clients puts) }
     {
-        let counts = Tally::new(alloc, clients)?;
-        let newest = Tally::new(alloc, puts)?;
+        let counts = Epochs::new(alloc, clients)?;
+        let newest = Epochs::new(alloc, puts)?;
         Ok(Sweep {
             counts,
             newest,
@@ -61,7 +61,7 @@ impl Sweep {
     {
         let from = self.counts.get(client as usize);
         if from < to {
-            self.pending.push(Range { client, from, to })?;
+            self.pending.push(OpRange { client, from, to })?;
             self.counts.set(client as usize, to);
         }
         Ok(())
@@ -87,7 +87,7 @@ impl Sweep {
         &mut self,
         table: &[VersionedPut],
         firsts: &[u32],
-        seen: Seen,
+        seen: OpPlace,
     ) -> Result<(), AllocError>
         requires few { length table.now ≤ MAX_OPS }
         requires firsts { ArePlaces table.now firsts.now }
@@ -99,11 +99,11 @@ impl Sweep {
             → IsOk result × HasRoom space lengths self.new }
     {
         match seen {
-            Seen::Put(place) => {
+            OpPlace::Put(place) => {
                 self.take_put(firsts, place);
                 Ok(())
             }
-            Seen::Got(place) => {
+            OpPlace::Got(place) => {
                 let put = &table[place as usize];
                 self.raise(put.name.client, put.name.index + 1)?;
                 Ok(())
@@ -118,32 +118,32 @@ impl Sweep {
     fn look_at(
         &mut self,
         table: &[VersionedPut],
-        notes: &Notes,
+        summaries: &Summaries,
         firsts: &[u32],
         floor: u32,
         from: u32,
         name: OpName,
-        noted: Option<Note>,
+        summarized: Option<Summary>,
     ) -> Result<bool, AllocError>
-        requires noted { noted ≡ note_at notes.now name }
-        requires rising { AreRising table.now notes.now }
+        requires summarized { summarized ≡ summary_at summaries.now name }
+        requires rising { AreRising table.now summaries.now }
         requires firsts { ArePlaces table.now firsts.now }
         requires low { from ≤ name.index }
-        requires sweeping { IsSweeping table.now notes.now firsts.now floor self.old (InRange (record { client = name.client; from = from; to = name.index + 1 })) }
-        ensures on { IfOk result (λ on. IsTrue on → IsSweeping table.now notes.now firsts.now floor self.new (InRange (record { client = name.client; from = from; to = name.index }))) }
-        ensures done { IfOk result (λ on. ¬ IsTrue on → IsSweeping table.now notes.now firsts.now floor self.new (λ _. ⊥)) }
-        ensures grows { OnOk result (Grows table.now notes.now self.old self.new) }
+        requires sweeping { IsSweeping table.now summaries.now firsts.now floor self.old (InRange (record { client = name.client; from = from; to = name.index + 1 })) }
+        ensures on { IfOk result (λ on. IsTrue on → IsSweeping table.now summaries.now firsts.now floor self.new (InRange (record { client = name.client; from = from; to = name.index }))) }
+        ensures done { IfOk result (λ on. ¬ IsTrue on → IsSweeping table.now summaries.now firsts.now floor self.new (λ _. ⊥)) }
+        ensures grows { OnOk result (Grows table.now summaries.now self.old self.new) }
         ensures work { OnOk result (work_left self.new ≤ work_left self.old) }
-        ensures room { (space : ℕ) → HasRoom space (map length notes.now) self.old
-            → IsOk result × HasRoom space (map length notes.now) self.new }
+        ensures room { (space : ℕ) → HasRoom space (map length summaries.now) self.old
+            → IsOk result × HasRoom space (map length summaries.now) self.new }
     {
-        let Some(note) = noted else {
+        let Some(summary) = summarized else {
             return Ok(true);
         };
-        if note.mark <= floor {
+        if summary.mark <= floor {
             return Ok(false);
         }
-        self.learn(table, firsts, note.seen)?;
+        self.learn(table, firsts, summary.seen)?;
         Ok(true)
     }
 
@@ -151,28 +151,30 @@ impl Sweep {
     fn look(
         &mut self,
         table: &[VersionedPut],
-        notes: &Notes,
+        summaries: &Summaries,
         firsts: &[u32],
         floor: u32,
-        range: Range,
+        range: OpRange,
     ) -> Result<(), AllocError>
-        requires rising { AreRising table.now notes.now }
+        requires rising { AreRising table.now summaries.now }
         requires firsts { ArePlaces table.now firsts.now }
-        requires sweeping { IsSweeping table.now notes.now firsts.now floor self.old (InRange range) }
-        ensures sweeping { OnOk result (IsSweeping table.now notes.now firsts.now floor self.new (λ _. ⊥)) }
-        ensures grows { OnOk result (Grows table.now notes.now self.old self.new) }
+        requires sweeping { IsSweeping table.now summaries.now firsts.now floor self.old (InRange range) }
+        ensures sweeping { OnOk result (IsSweeping table.now summaries.now firsts.now floor self.new (λ _. ⊥)) }
+        ensures grows { OnOk result (Grows table.now summaries.now self.old self.new) }
         ensures work { OnOk result (work_left self.new ≤ work_left self.old) }
-        ensures room { (space : ℕ) → HasRoom space (map length notes.now) self.old
-            → IsOk result × HasRoom space (map length notes.now) self.new }
+        ensures room { (space : ℕ) → HasRoom space (map length summaries.now) self.old
+            → IsOk result × HasRoom space (map length summaries.now) self.new }
     {
-        let session = notes.session(range.client);
+        let session = summaries.session(range.client);
         for index in (range.from..range.to).rev() {
-            let noted = session.get(index as usize).copied();
+            let summarized = session.get(index as usize).copied();
             let name = OpName {
                 client: range.client,
                 index,
             };
-            let on = self.look_at(table, notes, firsts, floor, range.from, name, noted)?;
+            let on = self.look_at(
+                table, summaries, firsts, floor, range.from, name, summarized,
+            )?;
             if !on {
                 return Ok(());
             }
@@ -184,21 +186,21 @@ impl Sweep {
     fn drain(
         &mut self,
         table: &[VersionedPut],
-        notes: &Notes,
+        summaries: &Summaries,
         firsts: &[u32],
         floor: u32,
     ) -> Result<(), AllocError>
-        requires rising { AreRising table.now notes.now }
+        requires rising { AreRising table.now summaries.now }
         requires firsts { ArePlaces table.now firsts.now }
-        requires sweeping { IsSweeping table.now notes.now firsts.now floor self.old (λ _. ⊥) }
-        ensures sweeping { OnOk result (IsSweeping table.now notes.now firsts.now floor self.new (λ _. ⊥)) }
-        ensures grows { OnOk result (Grows table.now notes.now self.old self.new) }
+        requires sweeping { IsSweeping table.now summaries.now firsts.now floor self.old (λ _. ⊥) }
+        ensures sweeping { OnOk result (IsSweeping table.now summaries.now firsts.now floor self.new (λ _. ⊥)) }
+        ensures grows { OnOk result (Grows table.now summaries.now self.old self.new) }
         ensures empty { OnOk result (self.new.pending.items ≡ []) }
-        ensures room { (space : ℕ) → HasRoom space (map length notes.now) self.old
-            → IsOk result × HasRoom space (map length notes.now) self.new }
+        ensures room { (space : ℕ) → HasRoom space (map length summaries.now) self.old
+            → IsOk result × HasRoom space (map length summaries.now) self.new }
     {
         while let Some(range) = self.pending.pop() {
-            self.look(table, notes, firsts, floor, range)?;
+            self.look(table, summaries, firsts, floor, range)?;
         }
         Ok(())
     }
@@ -207,29 +209,29 @@ impl Sweep {
     pub fn newest_in_past(
         &mut self,
         table: &[VersionedPut],
-        notes: &Notes,
+        summaries: &Summaries,
         firsts: &[u32],
         floor: u32,
         suspect: Suspect,
     ) -> Result<Option<u32>, AllocError>
-        requires rising { AreRising table.now notes.now }
+        requires rising { AreRising table.now summaries.now }
         requires firsts { ArePlaces table.now firsts.now }
-        requires sweeping { IsSweeping table.now notes.now firsts.now floor self.old (λ _. ⊥) }
+        requires sweeping { IsSweeping table.now summaries.now firsts.now floor self.old (λ _. ⊥) }
         requires empty { self.old.pending.items ≡ [] }
-        requires about { IsAbout table.now notes.now self.old suspect.op }
-        requires noted { (note : Note) × (note_at notes.now suspect.op ≡ Some note) }
+        requires about { IsAbout table.now summaries.now self.old suspect.op }
+        requires summarized { (summary : Summary) × (summary_at summaries.now suspect.op ≡ Some summary) }
         requires low { floor ≤ suspect.from }
-        requires source { (place mark : ℕ) → note_at notes.now suspect.op ≡ Some (record { seen = Seen.Got place; mark = mark }) → place < suspect.from }
-        ensures sweeping { OnOk result (IsSweeping table.now notes.now firsts.now floor self.new (λ _. ⊥)) }
+        requires source { (place mark : ℕ) → summary_at summaries.now suspect.op ≡ Some (record { seen = OpPlace.Got place; mark = mark }) → place < suspect.from }
+        ensures sweeping { OnOk result (IsSweeping table.now summaries.now firsts.now floor self.new (λ _. ⊥)) }
         ensures empty { OnOk result (self.new.pending.items ≡ []) }
-        ensures about { OnOk result (IsAbout table.now notes.now self.new suspect.op) }
-        ensures found { IfOk result (λ found. IfSome found (λ place. (suspect.from ≤ place) × IsNewestIn table.now notes.now firsts.now suspect.op suspect.first place)) }
-        ensures none { IfOk result (λ found. IfNone found (NoneFrom table.now notes.now firsts.now suspect.op suspect.first suspect.from)) }
-        ensures room { (space : ℕ) → HasRoom space (map length notes.now) self.old
-            → IsOk result × HasRoom space (map length notes.now) self.new }
+        ensures about { OnOk result (IsAbout table.now summaries.now self.new suspect.op) }
+        ensures found { IfOk result (λ found. IfSome found (λ place. (suspect.from ≤ place) × IsNewestIn table.now summaries.now firsts.now suspect.op suspect.first place)) }
+        ensures none { IfOk result (λ found. IfNone found (NoneFrom table.now summaries.now firsts.now suspect.op suspect.first suspect.from)) }
+        ensures room { (space : ℕ) → HasRoom space (map length summaries.now) self.old
+            → IsOk result × HasRoom space (map length summaries.now) self.new }
     {
         self.raise(suspect.op.client, suspect.op.index)?;
-        self.drain(table, notes, firsts, floor)?;
+        self.drain(table, summaries, firsts, floor)?;
         let newest = self.newest.get(suspect.first as usize);
         if newest > suspect.from {
             Ok(Some(newest - 1))

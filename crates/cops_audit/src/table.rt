@@ -7,7 +7,7 @@ ghost use Rattle.cops_types.specs.Faults.{IsBefore};
 ghost use Rattle.cops_types.specs.VersionOrder.{IsDoubled};
 ghost use Rattle.cops_audit.specs.Names.{ListsAmong};
 ghost use Rattle.cops_types.specs.declared.versioned_put.VersionedPut.{VersionedPut};
-ghost use Rattle.cops_audit.specs.Tables.{AreDoubledPuts, IsPutTable, Repeats, Rises, TellDoubled, VersionsNeverFall};
+ghost use Rattle.cops_audit.specs.Tables.{AreDoubledPuts, IsPutTable, Repeats, Rises, ReportDoubled, VersionsNeverFall};
 
 use cops_types::{History, OpName, Version, VersionedPut};
 use std::alloc::{AllocError, Global};
@@ -116,7 +116,7 @@ fn doubled_numbers(
     table: &[VersionedPut],
 ) -> Result<Vec<bool>, AllocError>
     requires { IsPutTable history.now.sessions table.now }
-    ensures { IfOk result (λ v. TellDoubled history.now v.items) }
+    ensures { IfOk result (λ v. ReportDoubled history.now v.items) }
 {
     let puts = doubled_puts(alloc, table)?;
     let mut are_doubled = vec![in alloc; false; history.puts()]?;
@@ -132,7 +132,7 @@ fn doubled_numbers(
 
 /// Whether another put has the version of this put.
 fn is_doubled(history: &History, are_doubled: &[bool], name: OpName) -> bool
-    requires { TellDoubled history.now are_doubled.now }
+    requires { ReportDoubled history.now are_doubled.now }
     ensures { IsTrue result ↔ IsDoubled history.now.sessions name }
 {
     let Some(number) = history.put_number(name) else {

@@ -1,9 +1,9 @@
-use crate::beside::notes_and_links;
 use crate::links::Links;
-use crate::notes::SessionNotes;
+use crate::parallel::summaries_and_links;
 use crate::put_places::put_places;
 use crate::puts::Puts;
 use crate::stale::stale_among;
+use crate::summaries::SessionSummaries;
 use crate::table::put_names;
 use crate::verdict::{Faults, Stale, Verdict};
 use cops_types::{History, Memory, OpName, VersionedPut};
@@ -18,20 +18,20 @@ pub struct Tables<'a> {
     history: &'a History,
     names: Vec<OpName>,
     table: Vec<VersionedPut>,
-    notes: SessionNotes,
+    summaries: SessionSummaries,
     links: Option<Links>,
 }
 
 impl<'a> Model for Tables<'a> {
     ghost use Rattle.std.specs.Prelude.{IfSome};
     ghost use Rattle.cops_audit.specs.Links.{AreLinks};
-    ghost use Rattle.cops_audit.specs.Noted.{AreTables, Noted};
+    ghost use Rattle.cops_audit.specs.Summarized.{AreTables, Summarized};
 
-    ghost Value = { Noted };
+    ghost Value = { Summarized };
 
-    ghost view = { λ t. record { sessions = t.history.now.sessions; names = t.names.items; notes = t.notes } };
+    ghost view = { λ t. record { sessions = t.history.now.sessions; names = t.names.items; summaries = t.summaries } };
 
-    ghost invariant = { λ t. AreTables t.table.items (record { sessions = t.history.now.sessions; names = t.names.items; notes = t.notes })
+    ghost invariant = { λ t. AreTables t.table.items (record { sessions = t.history.now.sessions; names = t.names.items; summaries = t.summaries })
         × IfSome t.links (AreLinks t.history.now t.table.items) };
 }
 
@@ -57,7 +57,7 @@ impl<'a> Tables<'a> {
             sources,
         } = puts;
         let places = put_places(alloc, history, table.as_slice())?;
-        let notes = SessionNotes::new(
+        let summaries = SessionSummaries::new(
             alloc,
             history,
             table.as_slice(),
@@ -68,7 +68,7 @@ impl<'a> Tables<'a> {
             history,
             names,
             table,
-            notes,
+            summaries,
             links: None,
         })
     }
@@ -91,7 +91,7 @@ impl<'a> Tables<'a> {
             table,
             sources,
         } = puts;
-        let (notes, links) = notes_and_links(
+        let (summaries, links) = summaries_and_links(
             rt,
             alloc,
             history,
@@ -103,7 +103,7 @@ impl<'a> Tables<'a> {
             history,
             names,
             table,
-            notes,
+            summaries,
             links: Some(links),
         })
     }
@@ -126,13 +126,13 @@ impl<'a> Tables<'a> {
     {
         let names = &self.names[start..start + len];
         let table = self.table.as_slice();
-        let notes = self.notes.look();
+        let summaries = self.summaries.look();
         let Some(links) = &self.links else {
             let places = put_places(alloc, self.history, table)?;
             let links = Links::once(alloc, self.history, table, places.as_slice())?;
-            return stale_among(alloc, self.history, table, &notes, &links, names);
+            return stale_among(alloc, self.history, table, &summaries, &links, names);
         };
-        stale_among(alloc, self.history, table, &notes, links, names)
+        stale_among(alloc, self.history, table, &summaries, links, names)
     }
 
     /// The verdict where the classes before the stale gets are empty: the stale gets among all names, or the puts in

@@ -6,12 +6,12 @@ ghost use Rattle.cops_types.specs.Faults.{IsBefore, IsNewer};
 ghost use Rattle.cops_types.specs.Verdicts.{AllAbove};
 ghost use Rattle.cops_audit.specs.SoFar.{HaveSourcesOrWait, IsWaiting};
 ghost use Rattle.cops_audit.specs.Keys.{AreNexts, KnowsFirsts};
-ghost use Rattle.cops_audit.specs.Notes.{IsNoted, IsSeen};
+ghost use Rattle.cops_audit.specs.Summaries.{IsSummarized, IsSeen};
 ghost use Rattle.cops_audit.specs.Tables.{IsVersionTable};
 ghost use Rattle.cops_audit.specs.Windows.{AreAllSuspects, AreSuspects, AreSuspectsBefore, IsSuspect, NoneWithin};
 
 use crate::keys::first_on;
-use crate::notes::{Notes, Seen};
+use crate::summaries::{OpPlace, Summaries};
 use cops_types::{History, OpName, VersionedPut};
 use std::alloc::AllocError;
 
@@ -37,7 +37,7 @@ fn got_suspect(
     requires table { IsVersionTable history.now.sessions table.now }
     requires nexts { AreNexts history.now.sessions table.now nexts.now }
     requires firsts { KnowsFirsts history.now table.now firsts.now }
-    requires got { IsSeen history.now.sessions table.now op (Seen.Got place) }
+    requires got { IsSeen history.now.sessions table.now op (OpPlace.Got place) }
     ensures suspect { IfSome result (λ s. (s.op ≡ op) × IsSuspect history.now.sessions table.now s) }
     ensures none { IfNone result (NoneWithin history.now.sessions table.now op mark) }
 {
@@ -90,7 +90,7 @@ fn waiting_suspect(
 ) -> Option<Suspect>
     requires table { IsVersionTable history.now.sessions table.now }
     requires firsts { KnowsFirsts history.now table.now firsts.now }
-    requires seen { IsSeen history.now.sessions table.now op (Seen.Sourceless place) }
+    requires seen { IsSeen history.now.sessions table.now op (OpPlace.Sourceless place) }
     requires waiting { IsWaiting history.now.sessions op }
     ensures suspect { IfSome result (λ s. (s.op ≡ op) × IsSuspect history.now.sessions table.now s) }
     ensures none { IfNone result (NoneWithin history.now.sessions table.now op mark) }
@@ -113,13 +113,13 @@ fn waiting_suspect(
 fn find_suspect(
     history: &History,
     table: &[VersionedPut],
-    notes: &Notes,
+    summaries: &Summaries,
     nexts: &[u32],
     firsts: &[Option<u32>],
     op: OpName,
 ) -> Option<Suspect>
     requires table { IsVersionTable history.now.sessions table.now }
-    requires notes { IsNoted history.now.sessions table.now notes.now }
+    requires summaries { IsSummarized history.now.sessions table.now summaries.now }
     requires nexts { AreNexts history.now.sessions table.now nexts.now }
     requires firsts { KnowsFirsts history.now table.now firsts.now }
     requires sources { HaveSourcesOrWait history.now.sessions }
@@ -127,13 +127,20 @@ fn find_suspect(
     ensures suspect { IfSome result (λ s. (s.op ≡ op) × IsSuspect history.now.sessions table.now s) }
     ensures none { IfNone result ((newer : OpName) (version : ℕ) → ¬ IsNewer history.now.sessions op newer version) }
 {
-    let Some(note) = notes.get(op) else {
+    let Some(summary) = summaries.get(op) else {
         return None;
     };
-    match note.seen {
-        Seen::Got(place) => got_suspect(history, table, nexts, firsts, op, place, note.mark),
-        Seen::Missed => missed_suspect(history, table, firsts, op, note.mark),
-        Seen::Sourceless(place) => waiting_suspect(history, table, firsts, op, place, note.mark),
+    match summary.seen {
+        OpPlace::Got(place) => got_suspect(history, table, nexts, firsts, op, place, summary.mark),
+        OpPlace::Missed => missed_suspect(history, table, firsts, op, summary.mark),
+        OpPlace::Sourceless(place) => waiting_suspect(
+            history,
+            table,
+            firsts,
+            op,
+            place,
+            summary.mark,
+        ),
         _ => None,
     }
 }
@@ -143,14 +150,14 @@ pub fn push_suspects(
     suspects: &mut Vec<Suspect>,
     history: &History,
     table: &[VersionedPut],
-    notes: &Notes,
+    summaries: &Summaries,
     nexts: &[u32],
     firsts: &[Option<u32>],
     names: &[OpName],
 ) -> Result<(), AllocError>
     requires empty { suspects.old.items ≡ [] }
     requires table { IsVersionTable history.now.sessions table.now }
-    requires notes { IsNoted history.now.sessions table.now notes.now }
+    requires summaries { IsSummarized history.now.sessions table.now summaries.now }
     requires nexts { AreNexts history.now.sessions table.now nexts.now }
     requires firsts { KnowsFirsts history.now table.now firsts.now }
     requires sources { HaveSourcesOrWait history.now.sessions }
@@ -162,7 +169,7 @@ pub fn push_suspects(
     ensures succeeds { length names.now ≤ vec_capacity suspects.old → IsOk result }
 {
     for name in names {
-        if let Some(found) = find_suspect(history, table, notes, nexts, firsts, *name) {
+        if let Some(found) = find_suspect(history, table, summaries, nexts, firsts, *name) {
             suspects.push(found)?;
         }
     }
@@ -175,14 +182,14 @@ fn push_session_suspects(
     suspects: &mut Vec<Suspect>,
     history: &History,
     table: &[VersionedPut],
-    notes: &Notes,
+    summaries: &Summaries,
     nexts: &[u32],
     firsts: &[Option<u32>],
     client: u16,
 ) -> Result<(), AllocError>
     requires client { client < length history.now.sessions }
     requires table { IsVersionTable history.now.sessions table.now }
-    requires notes { IsNoted history.now.sessions table.now notes.now }
+    requires summaries { IsSummarized history.now.sessions table.now summaries.now }
     requires nexts { AreNexts history.now.sessions table.now nexts.now }
     requires firsts { KnowsFirsts history.now table.now firsts.now }
     requires sources { HaveSourcesOrWait history.now.sessions }
@@ -197,7 +204,7 @@ fn push_session_suspects(
             client,
             index: index as u32,
         };
-        if let Some(found) = find_suspect(history, table, notes, nexts, firsts, name) {
+        if let Some(found) = find_suspect(history, table, summaries, nexts, firsts, name) {
             suspects.push(found)?;
         }
     }
@@ -209,12 +216,12 @@ pub fn set_suspects(
     suspects: &mut Vec<Suspect>,
     history: &History,
     table: &[VersionedPut],
-    notes: &Notes,
+    summaries: &Summaries,
     nexts: &[u32],
     firsts: &[Option<u32>],
 ) -> Result<(), AllocError>
     requires table { IsVersionTable history.now.sessions table.now }
-    requires notes { IsNoted history.now.sessions table.now notes.now }
+    requires summaries { IsSummarized history.now.sessions table.now summaries.now }
     requires nexts { AreNexts history.now.sessions table.now nexts.now }
     requires firsts { KnowsFirsts history.now table.now firsts.now }
     requires sources { HaveSourcesOrWait history.now.sessions }
@@ -230,7 +237,7 @@ pub fn set_suspects(
             suspects,
             history,
             table,
-            notes,
+            summaries,
             nexts,
             firsts,
             client as u16,

@@ -10,10 +10,10 @@ use std::thread::Threads;
 #[test]
 fn an_accepted_history(rt: HostRuntime) -> Result<(), Fail> {
     let entries = [
-        (0, Did::Put(b'x', 1, 2, 0)),
-        (1, Did::Put(b'x', 2, 1, 64)),
-        (1, Did::Put(b'x', 3, 2, 64)),
-        (2, Did::Got(b'x', 2, 1, 64)),
+        (0, TestOp::Put(b'x', 1, 2, 0)),
+        (1, TestOp::Put(b'x', 2, 1, 64)),
+        (1, TestOp::Put(b'x', 3, 2, 64)),
+        (2, TestOp::Got(b'x', 2, 1, 64)),
     ];
     let verdict = judged(rt.alloc(), 3, &entries)?;
     assert!(rt; accepts(verdict, &[name(1, 0), name(0, 0), name(1, 1)]));
@@ -36,10 +36,10 @@ fn numbers(history: &History) -> [Option<u32>; 4] {
 #[test]
 fn puts_have_numbers(rt: HostRuntime) -> Result<(), Fail> {
     let entries = [
-        (0, Did::Put(b'x', 1, 2, 0)),
-        (1, Did::Put(b'x', 2, 1, 64)),
-        (1, Did::Put(b'x', 3, 2, 64)),
-        (2, Did::Got(b'x', 2, 1, 64)),
+        (0, TestOp::Put(b'x', 1, 2, 0)),
+        (1, TestOp::Put(b'x', 2, 1, 64)),
+        (1, TestOp::Put(b'x', 3, 2, 64)),
+        (2, TestOp::Got(b'x', 2, 1, 64)),
     ];
     let history = history(rt.alloc(), 3, &entries)?;
     let names = listed(rt.alloc(), &history);
@@ -59,9 +59,9 @@ fn puts_have_numbers(rt: HostRuntime) -> Result<(), Fail> {
 #[test]
 fn a_deletion_has_a_number(rt: HostRuntime) -> Result<(), Fail> {
     let entries = [
-        (0, Did::Put(b'x', 1, 1, 0)),
-        (1, Did::Del(b'x', 2, 64)),
-        (2, Did::Gone(b'x', 2, 64)),
+        (0, TestOp::Put(b'x', 1, 1, 0)),
+        (1, TestOp::Del(b'x', 2, 64)),
+        (2, TestOp::Gone(b'x', 2, 64)),
     ];
     let history = history(rt.alloc(), 3, &entries)?;
     let names = listed(rt.alloc(), &history);
@@ -85,7 +85,7 @@ fn shared<R: Threads + Sync>(
     history: &History,
     threads: u8,
 ) -> Result<(usize, Vec<OpName>), Fail> {
-    let puts = Puts::beside(rt, alloc, history, threads)?;
+    let puts = Puts::parallel(rt, alloc, history, threads)?;
     let count = puts.count();
     let doubled = puts.doubled(alloc, 0, count);
     drop(puts);
@@ -94,13 +94,13 @@ fn shared<R: Threads + Sync>(
 
 /// One thread and several build the same.
 #[test]
-fn puts_beside_names(rt: HostRuntime) -> Result<(), Fail> {
+fn puts_parallel_to_names(rt: HostRuntime) -> Result<(), Fail> {
     let entries = [
-        (0, Did::Put(b'x', 1, 2, 0)),
-        (1, Did::Put(b'x', 2, 1, 64)),
-        (1, Did::Missed(b'y')),
-        (2, Did::Put(b'y', 3, 2, 0)),
-        (2, Did::Del(b'y', 1, 64)),
+        (0, TestOp::Put(b'x', 1, 2, 0)),
+        (1, TestOp::Put(b'x', 2, 1, 64)),
+        (1, TestOp::Missed(b'y')),
+        (2, TestOp::Put(b'y', 3, 2, 0)),
+        (2, TestOp::Del(b'y', 1, 64)),
     ];
     let wanted = [name(0, 0), name(1, 0), name(2, 0), name(2, 1)];
     let history = history(rt.alloc(), 3, &entries)?;
@@ -138,14 +138,14 @@ fn a_refused_history(rt: HostRuntime) -> Result<(), Fail> {
 
 /// The first four operations of a client that put, deleted and put again, and of one that got the last put, and then
 /// `last` as the second operation of the latter.
-fn ending_with(last: Did) -> [(u16, Did); 5] {
+fn ending_with(last: TestOp) -> [(u16, TestOp); 5] {
     let mut entries = STALE_BELOW_A_DELETION;
     entries[4] = (1, last);
     entries
 }
 
 /// Whether the get with which such a history ends has no source.
-fn ends_without_source(alloc: Global, last: Did) -> Result<bool, Fail> {
+fn ends_without_source(alloc: Global, last: TestOp) -> Result<bool, Fail> {
     let history = history(alloc, 2, &ending_with(last))?;
     let is_sourceless = is_sourceless(alloc, &history, name(1, 1));
     drop(history);
@@ -156,14 +156,14 @@ fn ends_without_source(alloc: Global, last: Did) -> Result<bool, Fail> {
 /// deletion as its source.
 #[test]
 fn gets_behind_a_deletion(rt: HostRuntime) -> Result<(), Fail> {
-    let entries = ending_with(Did::Gone(b'x', 2, 0));
+    let entries = ending_with(TestOp::Gone(b'x', 2, 0));
     let verdict = judged(rt.alloc(), 2, &entries)?;
     assert!(rt; accepts(verdict, &[name(0, 0), name(0, 1), name(0, 2)]));
     for (last, wanted) in [
-        (Did::Gone(b'x', 2, 0), false),
-        (Did::Gone(b'x', 1, 0), true),
-        (Did::Gone(b'y', 2, 0), true),
-        (Did::Got(b'x', 1, 2, 0), true),
+        (TestOp::Gone(b'x', 2, 0), false),
+        (TestOp::Gone(b'x', 1, 0), true),
+        (TestOp::Gone(b'y', 2, 0), true),
+        (TestOp::Got(b'x', 1, 2, 0), true),
     ] {
         assert!(rt; ends_without_source(rt.alloc(), last)? == wanted);
     }
@@ -239,7 +239,7 @@ fn limits_of_keys_and_values(rt: HostRuntime) -> Result<(), Fail> {
 fn has_past(
     alloc: Global,
     clients: u16,
-    entries: &[(u16, Did)],
+    entries: &[(u16, TestOp)],
     op: OpName,
     wanted: &[(u16, u32)],
 ) -> Result<bool, Fail> {
@@ -251,20 +251,23 @@ fn has_past(
 
 /// A chain of a hundred clients: client 0 puts x twice and then its own key, each next client gets the key of the one
 /// before and puts its own, and the last one gets the first x.
-fn chain(alloc: Global) -> Result<Vec<(u16, Did)>, Fail> {
+fn chain(alloc: Global) -> Result<Vec<(u16, TestOp)>, Fail> {
     let first = [
-        (0, Did::Put(b'x', 1, 1, 0)),
-        (0, Did::Put(b'x', 2, 2, 0)),
-        (0, Did::Put(128, 1, 3, 0)),
+        (0, TestOp::Put(b'x', 1, 1, 0)),
+        (0, TestOp::Put(b'x', 2, 2, 0)),
+        (0, TestOp::Put(128, 1, 3, 0)),
     ];
     let mut entries = Vec::from_slice(alloc, &first)?;
     for client in 1..100u8 {
         let clock = u64::from(client) + 2;
-        entries.push((u16::from(client), Did::Got(127 + client, 1, clock, 0)))?;
-        entries.push((u16::from(client), Did::Put(128 + client, 1, clock + 1, 0)))?;
+        entries.push((u16::from(client), TestOp::Got(127 + client, 1, clock, 0)))?;
+        entries.push((
+            u16::from(client),
+            TestOp::Put(128 + client, 1, clock + 1, 0),
+        ))?;
     }
-    entries.push((100, Did::Got(227, 1, 102, 0)))?;
-    entries.push((100, Did::Got(b'x', 1, 1, 0)))?;
+    entries.push((100, TestOp::Got(227, 1, 102, 0)))?;
+    entries.push((100, TestOp::Got(b'x', 1, 1, 0)))?;
     Ok(entries)
 }
 
@@ -290,11 +293,11 @@ fn past_through_a_hundred_clients(rt: HostRuntime) -> Result<(), Fail> {
 #[test]
 fn past_in_a_cycle(rt: HostRuntime) -> Result<(), Fail> {
     let entries = [
-        (0, Did::Got(b'a', 2, 1, 64)),
-        (0, Did::Put(b'b', 1, 1, 0)),
-        (1, Did::Got(b'b', 1, 1, 0)),
-        (1, Did::Put(b'a', 2, 1, 64)),
-        (2, Did::Missed(b'a')),
+        (0, TestOp::Got(b'a', 2, 1, 64)),
+        (0, TestOp::Put(b'b', 1, 1, 0)),
+        (1, TestOp::Got(b'b', 1, 1, 0)),
+        (1, TestOp::Put(b'a', 2, 1, 64)),
+        (2, TestOp::Missed(b'a')),
     ];
     let wanted = [(0, 2), (1, 2)];
     assert!(rt; has_past(rt.alloc(), 3, &entries, name(0, 0), &wanted)?);
@@ -308,10 +311,10 @@ fn past_in_a_cycle(rt: HostRuntime) -> Result<(), Fail> {
 #[test]
 fn past_through_a_deletion(rt: HostRuntime) -> Result<(), Fail> {
     let entries = [
-        (0, Did::Put(b'y', 1, 1, 0)),
-        (0, Did::Del(b'x', 2, 0)),
-        (1, Did::Gone(b'x', 2, 0)),
-        (1, Did::Missed(b'z')),
+        (0, TestOp::Put(b'y', 1, 1, 0)),
+        (0, TestOp::Del(b'x', 2, 0)),
+        (1, TestOp::Gone(b'x', 2, 0)),
+        (1, TestOp::Missed(b'z')),
     ];
     assert!(rt; has_past(rt.alloc(), 2, &entries, name(1, 1), &[(0, 2), (1, 1)])?);
     Ok(())
@@ -321,11 +324,11 @@ fn past_through_a_deletion(rt: HostRuntime) -> Result<(), Fail> {
 #[test]
 fn past_with_two_sources(rt: HostRuntime) -> Result<(), Fail> {
     let entries = [
-        (0, Did::Put(b'x', 1, 1, 0)),
-        (1, Did::Missed(b'x')),
-        (1, Did::Put(b'x', 1, 1, 0)),
-        (2, Did::Put(b'x', 2, 1, 0)),
-        (3, Did::Got(b'x', 1, 1, 0)),
+        (0, TestOp::Put(b'x', 1, 1, 0)),
+        (1, TestOp::Missed(b'x')),
+        (1, TestOp::Put(b'x', 1, 1, 0)),
+        (2, TestOp::Put(b'x', 2, 1, 0)),
+        (3, TestOp::Got(b'x', 1, 1, 0)),
     ];
     assert!(rt; has_past(rt.alloc(), 4, &entries, name(3, 0), &[(0, 1), (1, 2)])?);
     Ok(())

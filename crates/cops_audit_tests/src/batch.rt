@@ -8,20 +8,20 @@ use std::test::Fail;
 use std::thread::Threads;
 
 /// Three puts with one version.
-const DOUBLED: [(u16, Did); 5] = [
-    (0, Did::Put(b'x', 1, 1, 0)),
-    (1, Did::Put(b'y', 1, 1, 0)),
-    (1, Did::Got(b'q', 9, 9, 0)),
-    (2, Did::Put(b'x', 2, 2, 0)),
-    (2, Did::Put(b'x', 3, 1, 0)),
+const DOUBLED: [(u16, TestOp); 5] = [
+    (0, TestOp::Put(b'x', 1, 1, 0)),
+    (1, TestOp::Put(b'y', 1, 1, 0)),
+    (1, TestOp::Got(b'q', 9, 9, 0)),
+    (2, TestOp::Put(b'x', 2, 2, 0)),
+    (2, TestOp::Put(b'x', 3, 1, 0)),
 ];
 
 /// A get that found a deletion, with a version that a put of a value has, and the other way round.
-const SOURCELESS: [(u16, Did); 4] = [
-    (0, Did::Put(b'x', 1, 1, 0)),
-    (0, Did::Del(b'x', 2, 0)),
-    (1, Did::Gone(b'x', 1, 0)),
-    (2, Did::Got(b'x', 1, 2, 0)),
+const SOURCELESS: [(u16, TestOp); 4] = [
+    (0, TestOp::Put(b'x', 1, 1, 0)),
+    (0, TestOp::Del(b'x', 2, 0)),
+    (1, TestOp::Gone(b'x', 1, 0)),
+    (2, TestOp::Got(b'x', 1, 2, 0)),
 ];
 
 /// Whether this number of workers gives this verdict.
@@ -55,7 +55,7 @@ fn answer<R: Threads + Wait + Sync + AllocGlobal, G: Gate>(
     rt: &R,
     gate: &G,
     workers: u8,
-    entries: &[(u16, Did)],
+    entries: &[(u16, TestOp)],
 ) -> Result<Result<bool, BatchFault>, Fail> {
     let history = history(rt.alloc(), 3, entries)?;
     let answer = answer_on(rt, gate, workers, &history);
@@ -87,7 +87,7 @@ fn too_few_and_too_many_workers(rt: HostRuntime) -> Result<(), Fail> {
 fn meets<R: Threads + Wait + Sync + AllocGlobal>(
     rt: &R,
     workers: u8,
-    entries: &[(u16, Did)],
+    entries: &[(u16, TestOp)],
 ) -> Result<bool, Fail> {
     let gate = Meeting::new(Point::PieceStart(0), Point::PieceStart(1));
     Ok(answer(rt, &gate, workers, entries)? == Ok(true))
@@ -104,14 +104,14 @@ fn pieces_stand_side_by_side(rt: HostRuntime) -> Result<(), Fail> {
 /// Whether a call with three workers is held at the point.
 fn is_held<R: Threads + Wait + Sync + AllocGlobal>(
     rt: &R,
-    entries: &[(u16, Did)],
+    entries: &[(u16, TestOp)],
     point: Point,
 ) -> Result<bool, Fail> {
     Ok(answer(rt, &HoldsAt { point }, 3, entries)? == Err(BatchFault::Held))
 }
 
 #[test]
-fn a_held_worker_is_told(rt: HostRuntime) -> Result<(), Fail> {
+fn a_held_worker_is_reported(rt: HostRuntime) -> Result<(), Fail> {
     let sourceless = &DOUBLED[1..3];
     for i in 0..3 {
         assert!(rt; is_held(&rt, &STALE, Point::PieceStart(i))?, "{i}");

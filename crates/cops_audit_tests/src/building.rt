@@ -6,7 +6,7 @@ use std::test::Fail;
 
 /// An operation with a key and a value of one byte, and a version's clock and node.
 #[derive(Clone, Copy)]
-pub enum Did {
+pub enum TestOp {
     Put(u8, u8, u64, u16),
     Got(u8, u8, u64, u16),
     Missed(u8),
@@ -17,21 +17,21 @@ pub enum Did {
 }
 
 /// One get is stale: the second of client 1, whose past has the put of x at 2.
-pub const STALE: [(u16, Did); 5] = [
-    (0, Did::Put(b'x', 1, 1, 0)),
-    (0, Did::Put(b'x', 2, 2, 0)),
-    (0, Did::Put(b'y', 3, 3, 0)),
-    (1, Did::Got(b'y', 3, 3, 0)),
-    (1, Did::Got(b'x', 1, 1, 0)),
+pub const STALE: [(u16, TestOp); 5] = [
+    (0, TestOp::Put(b'x', 1, 1, 0)),
+    (0, TestOp::Put(b'x', 2, 2, 0)),
+    (0, TestOp::Put(b'y', 3, 3, 0)),
+    (1, TestOp::Got(b'y', 3, 3, 0)),
+    (1, TestOp::Got(b'x', 1, 1, 0)),
 ];
 
 /// Like `STALE`, but in format 2: the put of x at 2 is a deletion.
-pub const STALE_BELOW_A_DELETION: [(u16, Did); 5] = [
-    (0, Did::Put(b'x', 1, 1, 0)),
-    (0, Did::Del(b'x', 2, 0)),
-    (0, Did::Put(b'y', 3, 3, 0)),
-    (1, Did::Got(b'y', 3, 3, 0)),
-    (1, Did::Got(b'x', 1, 1, 0)),
+pub const STALE_BELOW_A_DELETION: [(u16, TestOp); 5] = [
+    (0, TestOp::Put(b'x', 1, 1, 0)),
+    (0, TestOp::Del(b'x', 2, 0)),
+    (0, TestOp::Put(b'y', 3, 3, 0)),
+    (1, TestOp::Got(b'y', 3, 3, 0)),
+    (1, TestOp::Got(b'x', 1, 1, 0)),
 ];
 
 /// The text of a trace: the first client puts 1 at x with the version 1.0, and the second gets it.
@@ -63,9 +63,9 @@ fn versioned(
     Ok((key, value, version))
 }
 
-pub fn op(alloc: Global, did: Did) -> Result<Op, TypeFault> {
-    match did {
-        Did::Put(key, value, clock, node) => {
+pub fn op(alloc: Global, test_op: TestOp) -> Result<Op, TypeFault> {
+    match test_op {
+        TestOp::Put(key, value, clock, node) => {
             let (key, value, version) = versioned(alloc, key, value, clock, node)?;
             Ok(Op::Put {
                 key,
@@ -73,7 +73,7 @@ pub fn op(alloc: Global, did: Did) -> Result<Op, TypeFault> {
                 version,
             })
         }
-        Did::Got(key, value, clock, node) => {
+        TestOp::Got(key, value, clock, node) => {
             let (key, value, version) = versioned(alloc, key, value, clock, node)?;
             Ok(Op::Got {
                 key,
@@ -81,14 +81,14 @@ pub fn op(alloc: Global, did: Did) -> Result<Op, TypeFault> {
                 version,
             })
         }
-        Did::Missed(key) => Ok(Op::Missed {
+        TestOp::Missed(key) => Ok(Op::Missed {
             key: Key::new(alloc, &[key])?,
         }),
-        Did::Del(key, clock, node) => Ok(Op::Del {
+        TestOp::Del(key, clock, node) => Ok(Op::Del {
             version: Version::new(clock, node)?,
             key: Key::new(alloc, &[key])?,
         }),
-        Did::Gone(key, clock, node) => Ok(Op::Gone {
+        TestOp::Gone(key, clock, node) => Ok(Op::Gone {
             version: Version::new(clock, node)?,
             key: Key::new(alloc, &[key])?,
         }),
@@ -96,16 +96,20 @@ pub fn op(alloc: Global, did: Did) -> Result<Op, TypeFault> {
 }
 
 /// Adds what the entries say to each client's session, in their order.
-fn push_all(alloc: Global, history: &mut History, entries: &[(u16, Did)]) -> Result<(), TypeFault> {
-    for (client, did) in entries {
-        let op = op(alloc, *did)?;
+fn push_all(
+    alloc: Global,
+    history: &mut History,
+    entries: &[(u16, TestOp)],
+) -> Result<(), TypeFault> {
+    for (client, test_op) in entries {
+        let op = op(alloc, *test_op)?;
         history.push(*client, op)?;
     }
     Ok(())
 }
 
 /// A history in which each client did what its entries say, in their order.
-pub fn history(alloc: Global, clients: u16, entries: &[(u16, Did)]) -> Result<History, Fail> {
+pub fn history(alloc: Global, clients: u16, entries: &[(u16, TestOp)]) -> Result<History, Fail> {
     let mut history = History::new(alloc, clients)?;
     match push_all(alloc, &mut history, entries) {
         Ok(()) => Ok(history),
@@ -117,7 +121,7 @@ pub fn history(alloc: Global, clients: u16, entries: &[(u16, Did)]) -> Result<Hi
 }
 
 /// The verdict of `judge` on such a history.
-pub fn judged(alloc: Global, clients: u16, entries: &[(u16, Did)]) -> Result<Verdict, Fail> {
+pub fn judged(alloc: Global, clients: u16, entries: &[(u16, TestOp)]) -> Result<Verdict, Fail> {
     let history = history(alloc, clients, entries)?;
     let verdict = judge(alloc, &history);
     drop(history);

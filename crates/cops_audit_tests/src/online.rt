@@ -6,8 +6,8 @@ use cops_types::{Counted, History, OpName};
 use std::alloc::Global;
 use std::test::Fail;
 
-fn feed(alloc: Global, online: &mut Online, client: u16, did: Did) -> Result<(), FeedFault> {
-    let op = op(alloc, did).or(Err(FeedFault::Memory))?;
+fn feed(alloc: Global, online: &mut Online, client: u16, test_op: TestOp) -> Result<(), FeedFault> {
+    let op = op(alloc, test_op).or(Err(FeedFault::Memory))?;
     online.feed(client, op)
 }
 
@@ -22,11 +22,11 @@ fn is_said(online: &mut Online, wanted: SoFar) -> bool {
 fn says(
     alloc: Global,
     online: &mut Online,
-    entries: &[(u16, Did)],
+    entries: &[(u16, TestOp)],
     wanted: &[SoFar],
 ) -> Result<bool, FeedFault> {
-    for ((client, did), so_far) in entries.iter().zip(wanted) {
-        feed(alloc, online, *client, *did)?;
+    for ((client, test_op), so_far) in entries.iter().zip(wanted) {
+        feed(alloc, online, *client, *test_op)?;
         if !is_said(online, *so_far) {
             return Ok(false);
         }
@@ -35,7 +35,12 @@ fn says(
 }
 
 /// Whether the verdict is the one of `judge` on these operations.
-fn ends(alloc: Global, online: Online, clients: u16, entries: &[(u16, Did)]) -> Result<bool, Fail> {
+fn ends(
+    alloc: Global,
+    online: Online,
+    clients: u16,
+    entries: &[(u16, TestOp)],
+) -> Result<bool, Fail> {
     let verdict = online.finish()?;
     match judged(alloc, clients, entries) {
         Ok(wanted) => {
@@ -55,7 +60,7 @@ fn ends(alloc: Global, online: Online, clients: u16, entries: &[(u16, Did)]) -> 
 fn fed(
     alloc: Global,
     clients: u16,
-    entries: &[(u16, Did)],
+    entries: &[(u16, TestOp)],
     wanted: &[SoFar],
 ) -> Result<bool, Fail> {
     let mut online = Online::new(alloc, clients)?;
@@ -66,13 +71,13 @@ fn fed(
 
 #[test]
 fn a_put_and_another_operation(rt: HostRuntime) -> Result<(), Fail> {
-    let put = (0, Did::Put(b'x', 1, 1, 0));
-    let got = (1, Did::Got(b'x', 1, 1, 0));
-    let other_put = (1, Did::Put(b'x', 2, 1, 0));
-    let other_value = (1, Did::Got(b'x', 2, 1, 0));
-    let newer = (0, Did::Got(b'y', 2, 2, 0));
-    let del = (0, Did::Del(b'x', 1, 0));
-    let gone = (1, Did::Gone(b'x', 1, 0));
+    let put = (0, TestOp::Put(b'x', 1, 1, 0));
+    let got = (1, TestOp::Got(b'x', 1, 1, 0));
+    let other_put = (1, TestOp::Put(b'x', 2, 1, 0));
+    let other_value = (1, TestOp::Got(b'x', 2, 1, 0));
+    let newer = (0, TestOp::Got(b'y', 2, 2, 0));
+    let del = (0, TestOp::Del(b'x', 1, 0));
+    let gone = (1, TestOp::Gone(b'x', 1, 0));
     for (first, second, wanted) in [
         (put, got, [Clean, Clean]),
         (got, put, [Waiting(1), Clean]),
@@ -94,10 +99,10 @@ fn a_put_and_another_operation(rt: HostRuntime) -> Result<(), Fail> {
 #[test]
 fn deletions_that_wait(rt: HostRuntime) -> Result<(), Fail> {
     let entries = [
-        (1, Did::Gone(b'x', 2, 0)),
-        (1, Did::Got(b'x', 1, 1, 0)),
-        (0, Did::Put(b'x', 1, 1, 0)),
-        (0, Did::Del(b'x', 2, 0)),
+        (1, TestOp::Gone(b'x', 2, 0)),
+        (1, TestOp::Got(b'x', 1, 1, 0)),
+        (0, TestOp::Put(b'x', 1, 1, 0)),
+        (0, TestOp::Del(b'x', 2, 0)),
     ];
     let wanted = [Waiting(1), Waiting(2), Waiting(1), Refused];
     assert!(rt; fed(rt.alloc(), 2, &entries, &wanted)?);
@@ -107,11 +112,11 @@ fn deletions_that_wait(rt: HostRuntime) -> Result<(), Fail> {
 #[test]
 fn refused_while_a_get_waits(rt: HostRuntime) -> Result<(), Fail> {
     let entries = [
-        (0, Did::Put(b'x', 1, 1, 0)),
-        (0, Did::Put(b'x', 2, 2, 0)),
-        (1, Did::Got(b'y', 9, 9, 0)),
-        (1, Did::Got(b'x', 2, 2, 0)),
-        (1, Did::Got(b'x', 1, 1, 0)),
+        (0, TestOp::Put(b'x', 1, 1, 0)),
+        (0, TestOp::Put(b'x', 2, 2, 0)),
+        (1, TestOp::Got(b'y', 9, 9, 0)),
+        (1, TestOp::Got(b'x', 2, 2, 0)),
+        (1, TestOp::Got(b'x', 1, 1, 0)),
     ];
     let wanted = [Clean, Clean, Waiting(1), Waiting(1), Refused];
     assert!(rt; fed(rt.alloc(), 2, &entries, &wanted)?);
@@ -122,13 +127,13 @@ fn refused_while_a_get_waits(rt: HostRuntime) -> Result<(), Fail> {
 #[test]
 fn refused_from_then_on(rt: HostRuntime) -> Result<(), Fail> {
     let entries = [
-        (0, Did::Put(b'x', 1, 1, 0)),
-        (1, Did::Got(b'y', 9, 9, 0)),
-        (0, Did::Put(b'x', 2, 2, 0)),
-        (1, Did::Got(b'x', 2, 2, 0)),
-        (1, Did::Got(b'x', 1, 1, 0)),
-        (0, Did::Put(b'y', 9, 9, 0)),
-        (1, Did::Missed(b'z')),
+        (0, TestOp::Put(b'x', 1, 1, 0)),
+        (1, TestOp::Got(b'y', 9, 9, 0)),
+        (0, TestOp::Put(b'x', 2, 2, 0)),
+        (1, TestOp::Got(b'x', 2, 2, 0)),
+        (1, TestOp::Got(b'x', 1, 1, 0)),
+        (0, TestOp::Put(b'y', 9, 9, 0)),
+        (1, TestOp::Missed(b'z')),
     ];
     let wait = Waiting(1);
     let wanted = [Clean, wait, wait, wait, Refused, Refused, Refused];
@@ -142,8 +147,13 @@ fn feed_rounds(alloc: Global, online: &mut Online, client: u8, next: u8) -> Resu
     let next_node = u16::from(next);
     for round in 1..101u8 {
         let clock = u64::from(round);
-        feed(alloc, online, node, Did::Put(client, round, clock, node))?;
-        feed(alloc, online, node, Did::Got(next, round, clock, next_node))?;
+        feed(alloc, online, node, TestOp::Put(client, round, clock, node))?;
+        feed(
+            alloc,
+            online,
+            node,
+            TestOp::Got(next, round, clock, next_node),
+        )?;
     }
     Ok(())
 }
@@ -192,7 +202,7 @@ fn many_gets_before_their_puts(rt: HostRuntime) -> Result<(), Fail> {
 #[test]
 fn a_stale_get_after_many(rt: HostRuntime) -> Result<(), Fail> {
     let mut online = fed_rounds(rt.alloc())?;
-    let fed = feed(rt.alloc(), &mut online, 0, Did::Got(1, 7, 7, 1));
+    let fed = feed(rt.alloc(), &mut online, 0, TestOp::Got(1, 7, 7, 1));
     let refused = is_said(&mut online, Refused);
     drop(online);
     fed?;
@@ -200,12 +210,12 @@ fn a_stale_get_after_many(rt: HostRuntime) -> Result<(), Fail> {
     Ok(())
 }
 
-const WAITS: Did = Did::Got(b'x', 1, 1, 0);
+const WAITS: TestOp = TestOp::Got(b'x', 1, 1, 0);
 
 /// Whether an operation of a client that does not exist is refused, and the verdict so far stays.
 fn refuses_others(alloc: Global, online: &mut Online) -> Result<bool, FeedFault> {
     feed(alloc, online, 0, WAITS)?;
-    let refused = feed(alloc, online, 1, Did::Put(b'x', 1, 1, 0));
+    let refused = feed(alloc, online, 1, TestOp::Put(b'x', 1, 1, 0));
     Ok(refused == Err(FeedFault::UnknownClient) && is_said(online, Waiting(1)))
 }
 

@@ -1,5 +1,5 @@
 //! A trace's text that is read byte by byte, and one that is written frame by frame.
-use crate::building::{DELETED, Did, TWO, op};
+use crate::building::{DELETED, TWO, TestOp, op};
 use cops_trace::{Item, TraceFault, TraceReader, TraceWriter, Unwritten, WriteFault};
 use cops_types::{Counted, FailingWriter, Format, Memory, Op};
 use cops_wire::WireFault;
@@ -7,7 +7,7 @@ use std::alloc::Global;
 use std::test::Fail;
 
 /// An item as a number: the client of an operation, 100 and the number of clients for the head, and 200 for the end.
-fn told(item: &Item) -> u16 {
+fn reported(item: &Item) -> u16 {
     match item {
         Item::Head { clients, .. } => clients.saturating_add(100),
         Item::Op { client, .. } => *client,
@@ -16,14 +16,14 @@ fn told(item: &Item) -> u16 {
 }
 
 /// The number of the next item, or `None` where there is none yet. The item is dropped.
-fn next_told(reader: &mut TraceReader) -> Option<u16> {
+fn next_reported(reader: &mut TraceReader) -> Option<u16> {
     let next = reader.next();
-    let told = match &next {
-        Ok(Some(item)) => Some(told(item)),
+    let reported = match &next {
+        Ok(Some(item)) => Some(reported(item)),
         _ => None,
     };
     drop(next);
-    told
+    reported
 }
 
 /// Adds the numbers of the items of a text that is read byte by byte.
@@ -31,8 +31,8 @@ fn read_all(reader: &mut TraceReader, text: &[u8], all: &mut Vec<u16>) -> Result
     for k in 0..text.len() {
         reader.feed(&text[k..k + 1])?;
         for _ in 0..text.len() {
-            match next_told(reader) {
-                Some(told) => all.push(told)?,
+            match next_reported(reader) {
+                Some(reported) => all.push(reported)?,
                 None => break,
             }
         }
@@ -207,26 +207,26 @@ fn written(
     alloc: Global,
     format: Format,
     bytes: usize,
-    did: [Did; 2],
+    test_op: [TestOp; 2],
 ) -> Result<(Vec<u8>, Option<WriteFault>), Fail> {
-    let put = op(alloc, did[0])?;
-    let got = match op(alloc, did[1]) {
+    let put = op(alloc, test_op[0])?;
+    let got = match op(alloc, test_op[1]) {
         Ok(got) => got,
         Err(fault) => {
             drop(put);
             return Err(Fail::from(fault));
         }
     };
-    let told = written_of(alloc, format, bytes, &put, &got);
+    let reported = written_of(alloc, format, bytes, &put, &got);
     drop(put);
     drop(got);
-    Ok(told)
+    Ok(reported)
 }
 
 /// Whether exactly the first `bytes` of the 66 bytes were written, and the fault.
-fn front_of(alloc: Global, bytes: usize) -> Result<(bool, Option<WriteFault>), Fail> {
-    let did = [Did::Put(b'x', b'1', 1, 0), Did::Got(b'x', b'1', 1, 0)];
-    let (out, fault) = written(alloc, Format::One, bytes, did)?;
+fn prefix_of(alloc: Global, bytes: usize) -> Result<(bool, Option<WriteFault>), Fail> {
+    let test_op = [TestOp::Put(b'x', b'1', 1, 0), TestOp::Got(b'x', b'1', 1, 0)];
+    let (out, fault) = written(alloc, Format::One, bytes, test_op)?;
     Ok((out.as_slice() == &TWO[..bytes.min(66)], fault))
 }
 
@@ -234,17 +234,17 @@ fn front_of(alloc: Global, bytes: usize) -> Result<(bool, Option<WriteFault>), F
 fn a_writer_that_fails_after_each_byte(rt: HostRuntime) -> Result<(), Fail> {
     for bytes in 0..66 {
         let fault = Some(WriteFault::WriteFailed { written: bytes });
-        assert!(rt; front_of(rt.alloc(), bytes)? == (true, fault), "{bytes}");
+        assert!(rt; prefix_of(rt.alloc(), bytes)? == (true, fault), "{bytes}");
     }
-    assert!(rt; front_of(rt.alloc(), 66)? == (true, None));
+    assert!(rt; prefix_of(rt.alloc(), 66)? == (true, None));
     Ok(())
 }
 
 /// Whether exactly the first `bytes` bytes of a deletion by one client, which the other one found, were written, and
 /// the fault.
-fn front_of_deletion(alloc: Global, bytes: usize) -> Result<(bool, Option<WriteFault>), Fail> {
-    let did = [Did::Del(b'x', 1, 0), Did::Gone(b'x', 1, 0)];
-    let (out, fault) = written(alloc, Format::Two, bytes, did)?;
+fn prefix_of_deletion(alloc: Global, bytes: usize) -> Result<(bool, Option<WriteFault>), Fail> {
+    let test_op = [TestOp::Del(b'x', 1, 0), TestOp::Gone(b'x', 1, 0)];
+    let (out, fault) = written(alloc, Format::Two, bytes, test_op)?;
     let mut text = DELETED;
     // (two clients, and the second record is the first of client 1)
     (text[8], text[36], text[40]) = (2, 1, 0);
@@ -256,10 +256,10 @@ fn a_deletion_goes_out_until_the_writer_fails(rt: HostRuntime) -> Result<(), Fai
     for bytes in 0..60 {
         let fault = Some(WriteFault::WriteFailed { written: bytes });
         assert!(rt;
-            front_of_deletion(rt.alloc(), bytes)? == (true, fault),
+            prefix_of_deletion(rt.alloc(), bytes)? == (true, fault),
             "{bytes}"
         );
     }
-    assert!(rt; front_of_deletion(rt.alloc(), 60)? == (true, None));
+    assert!(rt; prefix_of_deletion(rt.alloc(), 60)? == (true, None));
     Ok(())
 }

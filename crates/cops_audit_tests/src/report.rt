@@ -5,16 +5,16 @@ use cops_types::{History, Memory, OpName};
 use std::alloc::Global;
 use std::test::Fail;
 
-fn feed_all(alloc: Global, online: &mut Online, entries: &[(u16, Did)]) -> Result<(), Fail> {
-    for (client, did) in entries {
-        let op = op(alloc, *did)?;
+fn feed_all(alloc: Global, online: &mut Online, entries: &[(u16, TestOp)]) -> Result<(), Fail> {
+    for (client, test_op) in entries {
+        let op = op(alloc, *test_op)?;
         online.feed(*client, op)?;
     }
     Ok(())
 }
 
 /// The verdict of an auditor of two clients that was fed these operations, with their history.
-fn fed(alloc: Global, entries: &[(u16, Did)]) -> Result<Judged, Fail> {
+fn fed(alloc: Global, entries: &[(u16, TestOp)]) -> Result<Judged, Fail> {
     let mut online = Online::new(alloc, 2)?;
     match feed_all(alloc, &mut online, entries) {
         Ok(()) => Ok(online.close()?),
@@ -26,37 +26,40 @@ fn fed(alloc: Global, entries: &[(u16, Did)]) -> Result<Judged, Fail> {
 }
 
 /// Whether the report of the verdict on a history is this text.
-fn is_told(alloc: Global, history: &History, text: &str) -> Result<bool, Memory> {
+fn is_reported(alloc: Global, history: &History, text: &str) -> Result<bool, Memory> {
     let verdict = judge(alloc, history)?;
-    let told = report(alloc, history, &verdict);
+    let reported = report(alloc, history, &verdict);
     drop(verdict);
-    Ok(told?.as_slice() == text.as_bytes())
+    Ok(reported?.as_slice() == text.as_bytes())
 }
 
 /// Whether the report of the verdict on a history is this text, also where the history was fed operation by operation.
-fn tells(alloc: Global, entries: &[(u16, Did)], text: &str) -> Result<bool, Fail> {
+fn is_reported(alloc: Global, entries: &[(u16, TestOp)], text: &str) -> Result<bool, Fail> {
     let history = history(alloc, 2, entries)?;
-    let is_told = is_told(alloc, &history, text);
+    let is_reported = is_reported(alloc, &history, text);
     drop(history);
-    if !is_told? {
+    if !is_reported? {
         return Ok(false);
     }
     let fed = fed(alloc, entries)?;
-    let told = report_judged(alloc, &fed);
+    let reported = report_judged(alloc, &fed);
     drop(fed);
-    Ok(told?.as_slice() == text.as_bytes())
+    Ok(reported?.as_slice() == text.as_bytes())
 }
 
 #[test]
 fn reports(rt: HostRuntime) -> Result<(), Fail> {
     let accepted = "accepted: 4 operations, 3 puts\n";
-    assert!(rt; tells(rt.alloc(), &STALE[..4], accepted)?);
+    assert!(rt; is_reported(rt.alloc(), &STALE[..4], accepted)?);
     let refused =
         "refused: 5 operations, 3 puts, 1 faults\nstale (1,1) returned 1.0, newer (0,1) at 2.0, chain (0,1) (0,2) (1,0) (1,1)\n";
-    assert!(rt; tells(rt.alloc(), &STALE, refused)?);
-    let other_value = [(0, Did::Put(b'x', 1, 1, 0)), (1, Did::Got(b'x', 2, 1, 0))];
+    assert!(rt; is_reported(rt.alloc(), &STALE, refused)?);
+    let other_value = [
+        (0, TestOp::Put(b'x', 1, 1, 0)),
+        (1, TestOp::Got(b'x', 2, 1, 0)),
+    ];
     let no_source = "refused: 2 operations, 1 puts, 1 faults\nno source (1,0) at 1.0\n";
-    assert!(rt; tells(rt.alloc(), &other_value, no_source)?);
+    assert!(rt; is_reported(rt.alloc(), &other_value, no_source)?);
     Ok(())
 }
 
@@ -66,24 +69,24 @@ fn reports_of_deletions(rt: HostRuntime) -> Result<(), Fail> {
     let mut entries = STALE_BELOW_A_DELETION;
     let stale =
         "refused: 5 operations, 3 puts, 1 faults\nstale (1,1) returned 1.0, newer (0,1) at 2.0, chain (0,1) (0,2) (1,0) (1,1)\n";
-    assert!(rt; tells(rt.alloc(), &entries, stale)?);
+    assert!(rt; is_reported(rt.alloc(), &entries, stale)?);
     let accepted = "accepted: 5 operations, 3 puts\n";
-    entries[4] = (1, Did::Gone(b'x', 2, 0));
-    assert!(rt; tells(rt.alloc(), &entries, accepted)?);
+    entries[4] = (1, TestOp::Gone(b'x', 2, 0));
+    assert!(rt; is_reported(rt.alloc(), &entries, accepted)?);
     let no_source = "refused: 5 operations, 3 puts, 1 faults\nno source (1,1) at 1.0\n";
-    entries[4] = (1, Did::Gone(b'x', 1, 0));
-    assert!(rt; tells(rt.alloc(), &entries, no_source)?);
+    entries[4] = (1, TestOp::Gone(b'x', 1, 0));
+    assert!(rt; is_reported(rt.alloc(), &entries, no_source)?);
     let missed =
         "refused: 5 operations, 3 puts, 1 faults\nstale (1,1) returned nothing, newer (0,1) at 2.0, chain (0,1) (0,2) (1,0) (1,1)\n";
-    entries[4] = (1, Did::Missed(b'x'));
-    assert!(rt; tells(rt.alloc(), &entries, missed)?);
+    entries[4] = (1, TestOp::Missed(b'x'));
+    assert!(rt; is_reported(rt.alloc(), &entries, missed)?);
     Ok(())
 }
 
 /// Whether this is the chain from one name to another. An empty list stands for no chain.
 fn leads(
     alloc: Global,
-    entries: &[(u16, Did)],
+    entries: &[(u16, TestOp)],
     clients: u16,
     ends: (OpName, OpName),
     wanted: &[OpName],
@@ -111,10 +114,10 @@ fn chains(rt: HostRuntime) -> Result<(), Fail> {
 #[test]
 fn a_chain_from_a_deletion(rt: HostRuntime) -> Result<(), Fail> {
     let entries = [
-        (0, Did::Put(b'x', 1, 1, 0)),
-        (0, Did::Del(b'x', 2, 0)),
-        (1, Did::Gone(b'x', 2, 0)),
-        (1, Did::Missed(b'y')),
+        (0, TestOp::Put(b'x', 1, 1, 0)),
+        (0, TestOp::Del(b'x', 2, 0)),
+        (1, TestOp::Gone(b'x', 2, 0)),
+        (1, TestOp::Missed(b'y')),
     ];
     let through = [name(0, 1), name(1, 0), name(1, 1)];
     let ends = (name(0, 1), name(1, 1));
@@ -141,14 +144,14 @@ fn no_chains(rt: HostRuntime) -> Result<(), Fail> {
 #[test]
 fn the_first_of_the_shortest_chains(rt: HostRuntime) -> Result<(), Fail> {
     let entries = [
-        (0, Did::Put(b'x', 1, 1, 0)),
-        (2, Did::Got(b'x', 1, 1, 0)),
-        (2, Did::Put(b'z', 1, 2, 2)),
-        (1, Did::Got(b'x', 1, 1, 0)),
-        (1, Did::Put(b'y', 1, 2, 1)),
-        (3, Did::Got(b'z', 1, 2, 2)),
-        (3, Did::Got(b'y', 1, 2, 1)),
-        (3, Did::Missed(b'q')),
+        (0, TestOp::Put(b'x', 1, 1, 0)),
+        (2, TestOp::Got(b'x', 1, 1, 0)),
+        (2, TestOp::Put(b'z', 1, 2, 2)),
+        (1, TestOp::Got(b'x', 1, 1, 0)),
+        (1, TestOp::Put(b'y', 1, 2, 1)),
+        (3, TestOp::Got(b'z', 1, 2, 2)),
+        (3, TestOp::Got(b'y', 1, 2, 1)),
+        (3, TestOp::Missed(b'q')),
     ];
     let wanted = [name(2, 0), name(2, 1), name(3, 0), name(3, 2)];
     let ends = (name(2, 0), name(3, 2));
@@ -159,11 +162,11 @@ fn the_first_of_the_shortest_chains(rt: HostRuntime) -> Result<(), Fail> {
 #[test]
 fn chains_where_steps_lead_back(rt: HostRuntime) -> Result<(), Fail> {
     let entries = [
-        (0, Did::Got(b'a', 2, 1, 64)),
-        (0, Did::Put(b'b', 1, 1, 0)),
-        (1, Did::Got(b'b', 1, 1, 0)),
-        (1, Did::Put(b'a', 2, 1, 64)),
-        (2, Did::Put(b'a', 2, 1, 64)),
+        (0, TestOp::Got(b'a', 2, 1, 64)),
+        (0, TestOp::Put(b'b', 1, 1, 0)),
+        (1, TestOp::Got(b'b', 1, 1, 0)),
+        (1, TestOp::Put(b'a', 2, 1, 64)),
+        (2, TestOp::Put(b'a', 2, 1, 64)),
     ];
     let back = [name(0, 1), name(1, 0), name(1, 1), name(0, 0)];
     let ends = (name(0, 1), name(0, 0));

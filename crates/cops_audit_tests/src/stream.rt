@@ -1,4 +1,4 @@
-use crate::building::{DELETED, Did, STALE_BELOW_A_DELETION, TWO, op};
+use crate::building::{DELETED, STALE_BELOW_A_DELETION, TWO, TestOp, op};
 use cops_stream::*;
 use cops_testing::HoldsAt;
 use cops_trace::{Trace, write_trace};
@@ -15,7 +15,7 @@ const NO_SOURCE: [u8; 42] = [
     0, 0, 0, 5, 21, 0, 0, 0, 1,
 ];
 
-const TOLD: &[u8] = b"refused: 1 operations, 0 puts, 1 faults\nno source (0,0) at 1.0\n";
+const REPORTED: &[u8] = b"refused: 1 operations, 0 puts, 1 faults\nno source (0,0) at 1.0\n";
 
 /// What is written for the first 65 bytes of `TWO`.
 const CUT: &[u8] = b"cut at 57\nso far: clean\n";
@@ -72,8 +72,8 @@ fn a_failed_read_writes_nothing_so_far(rt: HostRuntime) {
 }
 
 #[test]
-fn a_failed_write_leaves_a_front(rt: HostRuntime) {
-    for written in 0..TOLD.len() {
+fn a_failed_write_leaves_a_prefix(rt: HostRuntime) {
+    for written in 0..REPORTED.len() {
         let device = FailingWriter::new(Vec::new(rt.alloc()), 100, written as u64, 9);
         let mut reader = Counted::new(NO_SOURCE.as_slice());
         let mut writer = Counted::new(device);
@@ -81,14 +81,14 @@ fn a_failed_write_leaves_a_front(rt: HostRuntime) {
         assert_eq!(rt; got, Err(StreamFault::WriteFailed), "{written}");
         assert_eq!(rt; writer.failures(), 1, "{written}");
         let out = writer.into_inner().into_inner();
-        let front = TOLD.get(..written).unwrap_or(&[]);
+        let front = REPORTED.get(..written).unwrap_or(&[]);
         assert_eq!(rt; out.as_slice(), front, "{written}");
     }
 }
 
 #[test]
-fn a_failed_device_is_told(rt: HostRuntime) -> Result<(), Fail> {
-    for (reads, writes, told) in [(0, 9, "failed: read\n"), (9, 0, "failed: write\n")] {
+fn a_failed_device_is_reported(rt: HostRuntime) -> Result<(), Fail> {
+    for (reads, writes, reported) in [(0, 9, "failed: read\n"), (9, 0, "failed: write\n")] {
         let reader = FailingReader::new(TWO.as_slice(), reads, 1_000_000, 4096);
         let mut reader = Counted::new(reader);
         let device = FailingWriter::new(Vec::new(rt.alloc()), writes, 1_000_000, 4096);
@@ -97,13 +97,13 @@ fn a_failed_device_is_told(rt: HostRuntime) -> Result<(), Fail> {
         let got = show_stream(rt.alloc(), &mut reader, &mut out, &mut errors)?;
         assert_eq!(rt; got, 4, "{told}");
         assert_eq!(rt; out.into_inner().into_inner().len(), 0, "{told}");
-        assert_eq!(rt; errors.into_inner().as_slice(), told.as_bytes());
+        assert_eq!(rt; errors.into_inner().as_slice(), reported.as_bytes());
     }
     Ok(())
 }
 
 /// Whether exactly this text is written and this answer returned for a trace's text by 1, 2 and 64 workers.
-fn tells<R: Threads + Wait + Sync + AllocGlobal>(
+fn is_reported<R: Threads + Wait + Sync + AllocGlobal>(
     rt: &R,
     bytes: &[u8],
     answer: Answer,
@@ -124,21 +124,21 @@ fn tells<R: Threads + Wait + Sync + AllocGlobal>(
 fn a_text_with_a_deletion(rt: HostRuntime) -> Result<(), Fail> {
     let mut text = DELETED;
     let accepted = "accepted: 2 operations, 1 puts\n";
-    assert!(rt; tells(&rt, &text, Answer::Accepted, accepted)?);
+    assert!(rt; is_reported(&rt, &text, Answer::Accepted, accepted)?);
     for (format, fault) in [
         (1, "faulty: unknown kind at 9\n"),
         (3, "faulty: bad format at 0\n"),
     ] {
         text[6] = format;
-        assert!(rt; tells(&rt, &text, Answer::Faulty, fault)?);
+        assert!(rt; is_reported(&rt, &text, Answer::Faulty, fault)?);
     }
     Ok(())
 }
 
 /// Adds what two clients did to a trace, without the operations that its format does not allow.
-fn push_all(alloc: Global, trace: &mut Trace, entries: &[(u16, Did)]) -> Result<(), Fail> {
-    for (client, did) in entries {
-        let op = op(alloc, *did)?;
+fn push_all(alloc: Global, trace: &mut Trace, entries: &[(u16, TestOp)]) -> Result<(), Fail> {
+    for (client, test_op) in entries {
+        let op = op(alloc, *test_op)?;
         if op.in_format(trace.format()) {
             trace.push(*client, op)?;
         } else {
@@ -149,7 +149,7 @@ fn push_all(alloc: Global, trace: &mut Trace, entries: &[(u16, Did)]) -> Result<
 }
 
 /// The text of a trace of format 2 in which two clients did this.
-fn text_of(alloc: Global, entries: &[(u16, Did)]) -> Result<Vec<u8>, Fail> {
+fn text_of(alloc: Global, entries: &[(u16, TestOp)]) -> Result<Vec<u8>, Fail> {
     let mut trace = Trace::new_in(Format::Two, alloc, 2)?;
     push_all(alloc, &mut trace, entries)?;
     let mut writer = Counted::new(Vec::new(alloc));
@@ -161,40 +161,40 @@ fn text_of(alloc: Global, entries: &[(u16, Did)]) -> Result<Vec<u8>, Fail> {
 
 /// Whether exactly this is the answer and the text for a put, a deletion and a put of client 0, and for two gets of
 /// client 1, the second of which is `last`.
-fn told_of_last<R: Threads + Wait + Sync + AllocGlobal>(
+fn reported_of_last<R: Threads + Wait + Sync + AllocGlobal>(
     rt: &R,
-    last: Did,
+    last: TestOp,
     answer: Answer,
     text: &str,
 ) -> Result<bool, Fail> {
     let mut entries = STALE_BELOW_A_DELETION;
     entries[4] = (1, last);
     let bytes = text_of(rt.alloc(), &entries)?;
-    let told = tells(rt, bytes.as_slice(), answer, text);
+    let reported = is_reported(rt, bytes.as_slice(), answer, text);
     drop(bytes);
-    Ok(told?)
+    Ok(reported?)
 }
 
 #[test]
 fn gets_behind_a_deletion(rt: HostRuntime) -> Result<(), Fail> {
     for (last, answer, text) in [
         (
-            Did::Got(b'x', 1, 1, 0),
+            TestOp::Got(b'x', 1, 1, 0),
             Answer::Refused,
             "refused: 5 operations, 3 puts, 1 faults\nstale (1,1) returned 1.0, newer (0,1) at 2.0, chain (0,1) (0,2) (1,0) (1,1)\n",
         ),
         (
-            Did::Gone(b'x', 2, 0),
+            TestOp::Gone(b'x', 2, 0),
             Answer::Accepted,
             "accepted: 5 operations, 3 puts\n",
         ),
         (
-            Did::Gone(b'x', 1, 0),
+            TestOp::Gone(b'x', 1, 0),
             Answer::Refused,
             "refused: 5 operations, 3 puts, 1 faults\nno source (1,1) at 1.0\n",
         ),
     ] {
-        assert!(rt; told_of_last(&rt, last, answer, text)?);
+        assert!(rt; reported_of_last(&rt, last, answer, text)?);
     }
     Ok(())
 }

@@ -6,7 +6,7 @@ use Rattle.std.proofs.lemmas.Bool.{cases_lt, lt-ltb, le-ltb}
 use Rattle.std.proofs.lemmas.List.{get_or_append_left}
 use Rattle.cops_types.specs.declared.gate.Point.{Point}
 use Rattle.cops_batch.specs.declared.pieces.Piece.{Piece}
-use Rattle.cops_batch.specs.declared.pieces.State.TheVariants.{Held}
+use Rattle.cops_batch.specs.declared.pieces.PieceState.TheVariants.{Held}
 use Rattle.cops_batch.specs.Pieces.{Each, IsCut, IsHeldByGate, IsReady, LiesWithin, MayHoldPiece, SamePlaces, piece_len}
 
 -- one more piece at the end

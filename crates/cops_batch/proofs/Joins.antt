@@ -8,7 +8,7 @@ use Rattle.cops_types.specs.declared.op.OpName.{OpName}
 use Rattle.cops_types.specs.Faults.{IsBefore}
 use Rattle.cops_audit.specs.Names.{ListsAmong}
 use Rattle.cops_batch.specs.declared.pieces.Piece.{Piece}
-use Rattle.cops_batch.specs.declared.pieces.State.TheVariants.{Fine}
+use Rattle.cops_batch.specs.declared.pieces.PieceState.TheVariants.{Fine}
 use Rattle.cops_batch.specs.Pieces.{Each, IsCut, names_of}
 
 get_or-any : {A : Type 0} (xs : List A) (i : ℕ) (d e : A) → i < length xs → get_or xs i d ≡ get_or xs i e
@@ -17,8 +17,8 @@ get_or-any (x ∷ xs) zero d e inside = refl
 get_or-any (x ∷ xs) (suc i) d e inside = get_or-any xs i d e (omega (arith, inside))
 
 module _ {A : Type 0} (R : A → A → Type 0) (xs ys : List A) where
-  pairs_front : AllPairs R (xs ++ ys) → AllPairs R xs
-  pairs_front all i j d less inside =
+  pairs_prefix : AllPairs R (xs ++ ys) → AllPairs R xs
+  pairs_prefix all i j d less inside =
       rw (get_or_append_left xs ys d i (omega (arith, less, inside)), get_or_append_left xs ys d j inside) at
       (all i j d less (omega (arith, inside, length-append xs ys)))
 
@@ -36,12 +36,12 @@ module _ {A : Type 0} (R : A → A → Type 0) (xs ys : List A) where
 
   pairs_append : AllPairs R xs → AllPairs R ys → ((x y : A) → Contains xs x → Contains ys y → R x y) → AllPairs R (xs ++ ys)
   pairs_append front back across i j d less inside = elim (cases_lt j (length xs)) [
-    | inl j_front ↦ rw (get_or_append_left xs ys d i (omega (arith, less, j_front)), get_or_append_left xs ys d j j_front) (front i j d less j_front)
+    | inl j_prefix ↦ rw (get_or_append_left xs ys d i (omega (arith, less, j_prefix)), get_or_append_left xs ys d j j_prefix) (front i j d less j_prefix)
     | inr j_back ↦
         let y : get_or (xs ++ ys) j d ≡ get_or ys (j - length xs) d = at_back j d j_back in
         let y_in : j - length xs < length ys = omega (arith, inside, j_back, length-append xs ys) in
         elim (cases_lt i (length xs)) [
-          | inl i_front ↦ rw (get_or_append_left xs ys d i i_front, y) (across _ _ (Contains-get_or xs i d i_front) (Contains-get_or ys (j - length xs) d y_in))
+          | inl i_prefix ↦ rw (get_or_append_left xs ys d i i_prefix, y) (across _ _ (Contains-get_or xs i d i_prefix) (Contains-get_or ys (j - length xs) d y_in))
           | inr i_back ↦ rw (at_back i d i_back, y) (back (i - length xs) (j - length xs) d (omega (arith, less, i_back)) y_in)
         ]
   ]

@@ -2,7 +2,7 @@
 use Rattle.cops_types.specs.Faults.{HasNoSource, IsNotAbove, IsStale}
 use Rattle.cops_types.specs.VersionOrder.{IsDoubled}
 use Rattle.cops_audit.specs.Names.{ListsAmong}
-use Rattle.cops_audit.specs.Noted.{Noted}
+use Rattle.cops_audit.specs.Summarized.{Noted}
 use Rattle.cops_audit.specs.Sorted.{Sorted}
 use Rattle.cops_batch.specs.Pieces.{names_of}
 use Rattle.cops_batch.specs.declared.pieces.Piece.{Piece}

@@ -4,7 +4,7 @@ use Rattle.cops_types.specs.declared.gate.Point.{Point}
 use Rattle.cops_types.specs.declared.gate.Point.TheVariants.{PieceStart, PieceDone}
 use Rattle.cops_types.specs.declared.op.OpName.{OpName}
 use Rattle.cops_batch.specs.declared.pieces.Piece.{Piece}
-use Rattle.cops_batch.specs.declared.pieces.State.TheVariants.{Held}
+use Rattle.cops_batch.specs.declared.pieces.PieceState.TheVariants.{Held}
 
 -- the gate may hold this piece
 abbrev pub MayHoldPiece : (Point → Type 0) → ℕ → Type 0

@@ -4,11 +4,11 @@ ghost use Rattle.cops_audit.specs.Tables.{Rises};
 ghost use Rattle.cops_audit.specs.Verdicts.{IsVerdict};
 ghost use Rattle.cops_batch.specs.Pieces.{Each, IsCut, IsHeldByGate, MayHoldPiece};
 ghost use Rattle.cops_batch.specs.Found.{IsSearched};
-ghost use Rattle.cops_batch.specs.declared.pieces.State.TheVariants.{Fine};
+ghost use Rattle.cops_batch.specs.declared.pieces.PieceState.TheVariants.{Fine};
 ghost use Rattle.cops_batch.specs.declared.fault.BatchFault.TheVariants.{BadWorkers, Held};
 
 use crate::fault::BatchFault;
-use crate::pieces::{Piece, State};
+use crate::pieces::{Piece, PieceState};
 use cops_audit::{NotAbove, Puts, Stale, Verdict};
 use cops_types::{Gate, OpName};
 use std::alloc::{AllocError, Global};
@@ -22,15 +22,15 @@ pub fn finished<G: Gate>(gate: &G, pieces: &[Piece], count: usize) -> Result<(),
     ensures held { IsErrOf result Held → (i : ℕ) × (i < length pieces.now) × MayHoldPiece (G.may_hold gate.now) i }
 {
     for piece in pieces {
-        if let State::Held = piece.state {
+        if let PieceState::Held = piece.state {
             return Err(BatchFault::Held);
         }
     }
     for piece in pieces {
         match piece.state {
-            State::Fine => {}
-            State::Memory => return Err(BatchFault::Memory),
-            State::Held => unreachable!(),
+            PieceState::Fine => {}
+            PieceState::Memory => return Err(BatchFault::Memory),
+            PieceState::Held => unreachable!(),
         }
     }
     Ok(())

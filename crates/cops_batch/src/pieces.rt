@@ -4,7 +4,7 @@ ghost use Rattle.cops_audit.specs.Tables.{Rises};
 ghost use Rattle.cops_batch.specs.Found.{HasDoubled, HasStale, IsSearched};
 ghost use Rattle.cops_batch.specs.Pieces.{IsCut, IsHeldByGate, IsReady, LiesWithin, SamePlace, piece_len};
 ghost use Rattle.cops_batch.specs.declared.pieces.Piece.{Piece};
-ghost use Rattle.cops_batch.specs.declared.pieces.State.TheVariants.{Fine};
+ghost use Rattle.cops_batch.specs.declared.pieces.PieceState.TheVariants.{Fine};
 
 use cops_audit::{NotAbove, Puts, Stale, Tables};
 use cops_types::{Gate, OpName, Point};
@@ -13,7 +13,7 @@ use std::sync::Wait;
 
 /// The state of a worker's search of its piece.
 #[derive(Clone, Copy)]
-pub enum State {
+pub enum PieceState {
     /// It has not failed.
     Fine,
     /// Memory ran out.
@@ -28,7 +28,7 @@ pub struct Piece {
     pub number: u32,
     pub start: usize,
     pub len: usize,
-    pub state: State,
+    pub state: PieceState,
     /// The puts that have the version of another put, or the gets without a source.
     pub names: Vec<OpName>,
     pub not_above: Vec<NotAbove>,
@@ -44,7 +44,7 @@ impl Piece {
             number,
             start,
             len,
-            state: State::Fine,
+            state: PieceState::Fine,
             names: Vec::new(alloc),
             not_above: Vec::new(alloc),
             stale: Vec::new(alloc),
@@ -83,11 +83,11 @@ pub fn leave<R: Wait, G: Gate>(rt: &R, gate: &G, piece: &mut Piece)
     ensures held { IsHeldByGate (G.may_hold gate.now) piece.new }
     ensures found { piece.new.state ≡ Fine → piece.new ≡ piece.old }
 {
-    if let State::Held = piece.state {
+    if let PieceState::Held = piece.state {
         return;
     }
     if gate.pass(rt, Point::PieceDone(piece.number)).is_err() {
-        piece.state = State::Held;
+        piece.state = PieceState::Held;
     }
 }
 
@@ -115,12 +115,12 @@ pub fn look_for_doubled<R: Wait, G: Gate>(
     ensures found { piece.new.state ≡ Fine → HasDoubled puts.now piece.new }
 {
     if gate.pass(rt, Point::PieceStart(piece.number)).is_err() {
-        piece.state = State::Held;
+        piece.state = PieceState::Held;
         return;
     }
     match search_for_doubled(alloc, puts, piece) {
-        Ok(()) => piece.state = State::Fine,
-        Err(_) => piece.state = State::Memory,
+        Ok(()) => piece.state = PieceState::Fine,
+        Err(_) => piece.state = PieceState::Memory,
     }
     leave(rt, gate, piece);
 }
@@ -152,12 +152,12 @@ pub fn look_before_stale<R: Wait, G: Gate>(
     ensures found { piece.new.state ≡ Fine → IsSearched puts.now piece.new }
 {
     if gate.pass(rt, Point::PieceStart(piece.number)).is_err() {
-        piece.state = State::Held;
+        piece.state = PieceState::Held;
         return;
     }
     match search_before_stale(alloc, puts, piece) {
-        Ok(()) => piece.state = State::Fine,
-        Err(_) => piece.state = State::Memory,
+        Ok(()) => piece.state = PieceState::Fine,
+        Err(_) => piece.state = PieceState::Memory,
     }
 }
 
@@ -188,12 +188,12 @@ pub fn look_for_stale<R: Wait, G: Gate>(
     ensures held { IsHeldByGate (G.may_hold gate.now) piece.new }
     ensures found { piece.new.state ≡ Fine → HasStale tables.now piece.new }
 {
-    if let State::Held = piece.state {
+    if let PieceState::Held = piece.state {
         return;
     }
     match search_for_stale(alloc, tables, piece) {
-        Ok(()) => piece.state = State::Fine,
-        Err(_) => piece.state = State::Memory,
+        Ok(()) => piece.state = PieceState::Fine,
+        Err(_) => piece.state = PieceState::Memory,
     }
     leave(rt, gate, piece);
 }

@@ -3,7 +3,7 @@ ghost use Rattle.cops_types.specs.Verdicts.{AllAbove, AllHaveSources};
 ghost use Rattle.cops_audit.specs.Tables.{Rises};
 ghost use Rattle.cops_batch.specs.Found.{HasDoubled, HasStale, IsSearched};
 ghost use Rattle.cops_batch.specs.Pieces.{Each, IsHeldByGate, IsReady, LiesWithin, SamePlace, SamePlaces};
-ghost use Rattle.cops_batch.specs.declared.pieces.State.TheVariants.{Fine};
+ghost use Rattle.cops_batch.specs.declared.pieces.PieceState.TheVariants.{Fine};
 
 use crate::pieces::{Piece, leave, look_before_stale, look_for_doubled, look_for_stale};
 use cops_audit::{Puts, Tables};

@@ -16,7 +16,7 @@ pub struct Book {
 
 /// A node's answer to an event.
 #[derive(Drop)]
-struct Answer {
+struct StepOutcome {
     outcome: Outcome,
     /// A copy of the outcome.
     copy: Outcome,
@@ -68,7 +68,7 @@ impl Book {
         let Ok(answer) = answered(&mut self.node, event) else {
             return Outcome::Refused(Refusal::Memory);
         };
-        let Answer { outcome, copy } = answer;
+        let StepOutcome { outcome, copy } = answer;
         self.entries.push_reserved(Entry {
             ticket,
             event: kept,
@@ -103,14 +103,14 @@ impl Book {
 }
 
 /// Applies one event to the node, and copies its answer. On `Memory` nothing changes.
-fn answered(node: &mut Node, event: NodeEvent) -> Result<Answer, Memory>
+fn answered(node: &mut Node, event: NodeEvent) -> Result<StepOutcome, Memory>
     ensures memory { OnErr result (node.new ≡ node.old) }
     ensures stepped { IfOk result (λ answer. node_step node.old event ≡ (answer.outcome, node.new)) }
     ensures copied { IfOk result (λ answer. answer.copy ≡ answer.outcome) }
 {
     let outcome = stepped(node, event)?;
     let copy = outcome.copy()?;
-    Ok(Answer { outcome, copy })
+    Ok(StepOutcome { outcome, copy })
 }
 
 /// Applies one event to the node. On `Memory` nothing changes.

@@ -6,9 +6,9 @@
 mod book;
 mod entry;
 mod equal;
-mod told;
+mod reported;
 
 pub use book::Book;
 pub use entry::Entry;
 pub use equal::is_same_put;
-pub use told::{Puts, Told};
+pub use reported::{IssuedPuts, Recorded};

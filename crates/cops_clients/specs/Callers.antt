@@ -7,20 +7,20 @@ use Rattle.cops_cluster.specs.declared.share.Holder.{Holder}
 use Rattle.cops_cluster.specs.declared.share.Holder.TheVariants.{Client as HeldByClient, Receiver as HeldByReceiver}
 use Rattle.cops_replication.specs.Wiring.{numbers}
 use Rattle.cops_replication.specs.declared.receiver.Receiver.{Receiver}
-use Rattle.cops_clients.specs.declared.clients.Job.{Job}
+use Rattle.cops_clients.specs.declared.clients.ClientTask.{ClientTask}
 
 -- one of the setting's clients, in its data centre, with a share of its own
 abbrev pub IsClientOf : Setting → Client → Type 0
 IsClientOf s c = (c.number < length s.homes) × (c.dc ≡ home s c.number) × (c.dc < s.place.dcs) × (c.share.holder ≡ HeldByClient c.number)
 
 -- each of the setting's clients has a job, in order
-abbrev pub AreJobsOf : Setting → List Job → Type 0
-AreJobsOf s jobs = (map (λ (j : Job). j.client.number) jobs ≡ numbers (length s.homes)) × All (λ (j : Job). IsClientOf s j.client) jobs
+abbrev pub AreJobsOf : Setting → List ClientTask → Type 0
+AreJobsOf s jobs = (map (λ (j : ClientTask). j.client.number) jobs ≡ numbers (length s.homes)) × All (λ (j : ClientTask). IsClientOf s j.client) jobs
 
 -- the receiver of each data centre of the setting, in order, with a share of its own
 abbrev pub AreReceiversOf : Setting → List Receiver → Type 0
 AreReceiversOf s receivers = (map (λ (r : Receiver). r.dc) receivers ≡ numbers s.place.dcs) × All (λ (r : Receiver). r.share.holder ≡ HeldByReceiver r.dc) receivers
 
 -- the clients of these jobs, and then these receivers
-abbrev pub callers : List Job → List Receiver → List Holder
-callers jobs receivers = map (λ (j : Job). HeldByClient j.client.number) jobs ++ map (λ (r : Receiver). HeldByReceiver r.dc) receivers
+abbrev pub callers : List ClientTask → List Receiver → List Holder
+callers jobs receivers = map (λ (j : ClientTask). HeldByClient j.client.number) jobs ++ map (λ (r : Receiver). HeldByReceiver r.dc) receivers

@@ -5,7 +5,7 @@ ghost use Rattle.cops_clients.specs.Gates.{MayHoldIn};
 ghost use Rattle.cops_clients.specs.Trying.{AreAllTries};
 
 use crate::ends::{End, Returned};
-use crate::stage::Stage;
+use crate::state::RunState;
 use crate::tries::Tries;
 use cops_cluster::Client;
 use cops_core::ScriptOp;
@@ -15,7 +15,7 @@ use std::sync::Wait;
 
 /// A client with its script.
 #[derive(Drop)]
-pub(crate) struct Job<'a> {
+pub(crate) struct ClientTask<'a> {
     pub(crate) client: Client,
     pub(crate) script: &'a [ScriptOp],
 }
@@ -24,18 +24,18 @@ pub(crate) struct Job<'a> {
 /// refused.
 pub(crate) fn work<R: Wait, G: Gate>(
     rt: &R,
-    stage: &Stage,
+    state: &RunState,
     gate: &G,
     mut client: Client,
     script: &[ScriptOp],
 ) -> Returned
     ensures share { result.share.holder ≡ client.share.holder }
-    ensures held { result.end ≡ End.Held → MayHoldIn (G.may_hold gate.now) (length stage.now.cluster.place.splits + 1) client.dc client.number }
+    ensures held { result.end ≡ End.Held → MayHoldIn (G.may_hold gate.now) (length state.now.cluster.place.splits + 1) client.dc client.number }
 {
-    let end = match follow(rt, stage, gate, &mut client, script) {
+    let end = match follow(rt, state, gate, &mut client, script) {
         Ok(end) => end,
         Err(GateHeld) => {
-            stage.break_off();
+            state.break_off();
             End::Held
         }
     };
@@ -48,20 +48,20 @@ pub(crate) fn work<R: Wait, G: Gate>(
 /// Runs the operations of a script in order.
 fn follow<R: Wait, G: Gate>(
     rt: &R,
-    stage: &Stage,
+    state: &RunState,
     gate: &G,
     client: &mut Client,
     script: &[ScriptOp],
 ) -> Result<End, GateHeld>
     ensures same { IsSameClient client.old client.new }
     ensures ended { IfOk result (λ end. end ≡ End.Held → ⊥) }
-    ensures held { OnErr result (MayHoldIn (G.may_hold gate.now) (length stage.now.cluster.place.splits + 1) client.old.dc client.old.number) }
+    ensures held { OnErr result (MayHoldIn (G.may_hold gate.now) (length state.now.cluster.place.splits + 1) client.old.dc client.old.number) }
 {
     for op in script {
-        if stage.is_broken() {
+        if state.is_broken() {
             return Ok(End::Broken);
         }
-        let tries = perform(rt, stage, gate, client, op)?;
+        let tries = perform(rt, state, gate, client, op)?;
         if let Some(refusal) = tries.last() {
             return Ok(End::Client(ClientOutcome::Stopped(refusal)));
         }
@@ -73,22 +73,22 @@ fn follow<R: Wait, G: Gate>(
 /// operation that is refused because memory ran out is tried again, as often as the scenario allows.
 fn perform<R: Wait, G: Gate>(
     rt: &R,
-    stage: &Stage,
+    state: &RunState,
     gate: &G,
     client: &mut Client,
     op: &ScriptOp,
 ) -> Result<Tries, GateHeld>
     ensures same { IsSameClient client.old client.new }
-    ensures held { OnErr result (MayHoldIn (G.may_hold gate.now) (length stage.now.cluster.place.splits + 1) client.old.dc client.old.number) }
-    ensures tried { IfOk result (AreAllTries stage.now.retries) }
+    ensures held { OnErr result (MayHoldIn (G.may_hold gate.now) (length state.now.cluster.place.splits + 1) client.old.dc client.old.number) }
+    ensures tried { IfOk result (AreAllTries state.now.retries) }
 {
     let mut tries = Tries::none();
-    for _ in 0..stage.retries() {
-        let refused = tries.attempt(rt, stage, gate, client, op)?;
+    for _ in 0..state.retries() {
+        let refused = tries.attempt(rt, state, gate, client, op)?;
         if refused != Some(Refusal::Memory) {
             return Ok(tries);
         }
     }
-    tries.attempt(rt, stage, gate, client, op)?;
+    tries.attempt(rt, state, gate, client, op)?;
     Ok(tries)
 }

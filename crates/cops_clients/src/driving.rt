@@ -5,12 +5,12 @@ ghost use Rattle.cops_clients.specs.Gates.{MayHold, MayHoldIn, MayHoldReceiving}
 ghost use Rattle.cops_cluster.specs.Close.{holders};
 ghost use Rattle.cops_clients.specs.Callers.{AreJobsOf, AreReceiversOf, callers};
 
-use crate::clients::{Job, work};
+use crate::clients::{ClientTask, work};
 use crate::ends::{End, Owed, Returned};
 use crate::fault::RunFault;
 use crate::gathering::Gathered;
 use crate::replicas::{receive, send};
-use crate::stage::Stage;
+use crate::state::RunState;
 use cops_cluster::Holder;
 use cops_core::Setting;
 use cops_replication::{Receiver, Replicas, Sender};
@@ -33,12 +33,12 @@ pub(crate) fn drive<R: Threads + Wait + Sync, G: Gate>(
     rt: &R,
     alloc: Global,
     setting: &Setting,
-    stage: &Stage,
+    state: &RunState,
     gate: &G,
-    jobs: Vec<Job<'_>>,
+    jobs: Vec<ClientTask<'_>>,
     replicas: Replicas,
 ) -> Result<Gathered, RunFault>
-    requires place { stage.now.cluster.place ≡ setting.now.place }
+    requires place { state.now.cluster.place ≡ setting.now.place }
     requires jobs { AreJobsOf setting.now jobs.items }
     requires receivers { AreReceiversOf setting.now replicas.receivers.items }
     ensures shares { IfOk result (λ g. holders g.shares.items ≡ callers jobs.entry.items replicas.receivers.items) }
@@ -49,7 +49,7 @@ pub(crate) fn drive<R: Threads + Wait + Sync, G: Gate>(
         thread::scope_env(),
         rt,
         |scope| -> Result<Gathered, RunFault>
-            requires place { stage.now.cluster.place ≡ setting.now.place }
+            requires place { state.now.cluster.place ≡ setting.now.place }
             requires jobs { AreJobsOf setting.now jobs.items }
             requires receivers { AreReceiversOf setting.now replicas.receivers.items }
             ensures shares { IfOk result (λ g. holders g.shares.items ≡ callers jobs.entry.items replicas.receivers.items) }
@@ -65,16 +65,16 @@ pub(crate) fn drive<R: Threads + Wait + Sync, G: Gate>(
                 scope,
                 rt,
                 setting,
-                stage,
+                state,
                 gate,
                 jobs,
                 replicas,
                 &mut started,
             );
             if all.is_err() {
-                stage.break_off();
+                state.break_off();
             }
-            let gathered = joined(rt, alloc, setting, stage, gate, started);
+            let gathered = joined(rt, alloc, setting, state, gate, started);
             match all {
                 Ok(()) => gathered.whole(),
                 Err(fault) => Err(fault),
@@ -88,20 +88,20 @@ fn start<'s, E, R: Threads + Wait + Sync, G: Gate>(
     scope: &'s Scope<'s, E>,
     rt: &'s R,
     setting: &'s Setting,
-    stage: &'s Stage,
+    state: &'s RunState,
     gate: &'s G,
-    jobs: Vec<Job<'s>>,
+    jobs: Vec<ClientTask<'s>>,
     replicas: Replicas,
     started: &mut Started<G>,
 ) -> Result<(), RunFault>
-    requires place { stage.now.cluster.place ≡ setting.now.place }
+    requires place { state.now.cluster.place ≡ setting.now.place }
     requires jobs { AreJobsOf setting.now jobs.items }
     requires brought { AreReceiversOf setting.now replicas.receivers.items }
     requires clients { started.old.clients.items ≡ [] }
     requires receivers { started.old.receivers.items ≡ [] }
     ensures clients { All (λ (h : _). (h.promise.gate.value ≡ gate.now) × (h.promise.setting.value ≡ setting.now)) started.new.clients.items }
     ensures receivers { All (λ (h : _). (h.promise.gate.value ≡ gate.now) × (h.promise.setting.value ≡ setting.now)) started.new.receivers.items }
-    ensures all { OnOk result (map (λ (h : _). h.promise.who) started.new.clients.items ++ map (λ (h : _). h.promise.who) started.new.receivers.items ≡ callers jobs.entry.items replicas.receivers.items) }
+    ensures all { OnOk result (map (λ (h : _). h.promise.owner) started.new.clients.items ++ map (λ (h : _). h.promise.owner) started.new.receivers.items ≡ callers jobs.entry.items replicas.receivers.items) }
     ensures fault { result ≡ Err RunFault.Held → ⊥ }
     ensures unwritten { (n : ℕ) → result ≡ Err (RunFault.WriteFailed n) → ⊥ }
 {
@@ -110,7 +110,7 @@ fn start<'s, E, R: Threads + Wait + Sync, G: Gate>(
         scope,
         rt,
         setting,
-        stage,
+        state,
         gate,
         receivers,
         &mut started.receivers,
@@ -118,11 +118,11 @@ fn start<'s, E, R: Threads + Wait + Sync, G: Gate>(
         Ok(()) => {}
         Err(fault) => return Err(fault),
     }
-    match start_senders(scope, rt, stage, senders, &mut started.senders) {
+    match start_senders(scope, rt, state, senders, &mut started.senders) {
         Ok(()) => {}
         Err(fault) => return Err(fault),
     }
-    start_clients(scope, rt, setting, stage, gate, jobs, &mut started.clients)
+    start_clients(scope, rt, setting, state, gate, jobs, &mut started.clients)
 }
 
 /// Joins the clients, then the senders, and then the receivers. After each of the first two steps it sets the stage's
@@ -131,13 +131,13 @@ fn joined<R: Threads, G: Gate>(
     rt: &R,
     alloc: Global,
     setting: &Setting,
-    stage: &Stage,
+    state: &RunState,
     gate: &G,
     started: Started<G>,
 ) -> Gathered
     requires clients { All (λ (h : _). (h.promise.gate.value ≡ gate.now) × (h.promise.setting.value ≡ setting.now)) started.clients.items }
     requires receivers { All (λ (h : _). (h.promise.gate.value ≡ gate.now) × (h.promise.setting.value ≡ setting.now)) started.receivers.items }
-    ensures shares { IsTrue result.lost ⊎ (holders result.shares.items ≡ map (λ (h : _). h.promise.who) started.clients.items ++ map (λ (h : _). h.promise.who) started.receivers.items) }
+    ensures shares { IsTrue result.lost ⊎ (holders result.shares.items ≡ map (λ (h : _). h.promise.owner) started.clients.items ++ map (λ (h : _). h.promise.owner) started.receivers.items) }
     ensures held { IsTrue result.held → MayHold setting.now (G.may_hold gate.now) }
 {
     let Started {
@@ -147,9 +147,9 @@ fn joined<R: Threads, G: Gate>(
     } = started;
     let mut gathered = Gathered::new(alloc);
     gathered.join(rt, setting, gate, clients);
-    stage.join_clients();
+    state.join_clients();
     gathered.join_senders(rt, senders);
-    stage.join_senders();
+    state.join_senders();
     gathered.join(rt, setting, gate, receivers);
     gathered
 }
@@ -159,27 +159,27 @@ fn start_clients<'s, E, R: Threads + Wait + Sync, G: Gate>(
     scope: &'s Scope<'s, E>,
     rt: &'s R,
     setting: &'s Setting,
-    stage: &'s Stage,
+    state: &'s RunState,
     gate: &'s G,
-    jobs: Vec<Job<'s>>,
+    jobs: Vec<ClientTask<'s>>,
     handles: &mut Vec<PromisedHandle<Returned, Owed<G>>>,
 ) -> Result<(), RunFault>
-    requires place { stage.now.cluster.place ≡ setting.now.place }
+    requires place { state.now.cluster.place ≡ setting.now.place }
     requires jobs { AreJobsOf setting.now jobs.items }
     requires none { handles.old.items ≡ [] }
-    ensures all { OnOk result (map (λ (h : _). h.promise.who) handles.new.items ≡ map (λ j. HeldByClient j.client.number) jobs.entry.items) }
+    ensures all { OnOk result (map (λ (h : _). h.promise.owner) handles.new.items ≡ map (λ j. HeldByClient j.client.number) jobs.entry.items) }
     ensures promised { All (λ (h : _). (h.promise.gate.value ≡ gate.now) × (h.promise.setting.value ≡ setting.now)) handles.new.items }
     ensures fault { result ≡ Err RunFault.Held → ⊥ }
     ensures unwritten { (n : ℕ) → result ≡ Err (RunFault.WriteFailed n) → ⊥ }
 {
     for job in jobs {
-        let Job { client, script } = job;
+        let ClientTask { client, script } = job;
         let started = scope.spawn_with(
             Owed::of(Holder::Client(client.number()), setting, gate),
             move || -> Returned
                 ensures share { result.share.holder ≡ client.share.holder }
-                ensures held { result.end ≡ End.Held → MayHoldIn (G.may_hold gate.entry.now) (length stage.entry.now.cluster.place.splits + 1) client.dc client.number }
-            { work(rt, stage, gate, client, script) },
+                ensures held { result.end ≡ End.Held → MayHoldIn (G.may_hold gate.entry.now) (length state.entry.now.cluster.place.splits + 1) client.dc client.number }
+            { work(rt, state, gate, client, script) },
         );
         let Ok(handle) = started else {
             return Err(RunFault::NoThread);
@@ -196,7 +196,7 @@ fn start_clients<'s, E, R: Threads + Wait + Sync, G: Gate>(
 fn start_senders<'s, E, R: Threads + Wait + Sync>(
     scope: &'s Scope<'s, E>,
     rt: &'s R,
-    stage: &'s Stage,
+    state: &'s RunState,
     senders: Vec<Sender>,
     handles: &mut Vec<JoinHandle<bool>>,
 ) -> Result<(), RunFault>
@@ -204,7 +204,7 @@ fn start_senders<'s, E, R: Threads + Wait + Sync>(
     ensures unwritten { (n : ℕ) → result ≡ Err (RunFault.WriteFailed n) → ⊥ }
 {
     for sender in senders {
-        let Ok(handle) = scope.spawn(move || send(rt, stage, sender)) else {
+        let Ok(handle) = scope.spawn(move || send(rt, state, sender)) else {
             return Err(RunFault::NoThread);
         };
         match handles.push(handle) {
@@ -220,15 +220,15 @@ fn start_receivers<'s, E, R: Threads + Wait + Sync, G: Gate>(
     scope: &'s Scope<'s, E>,
     rt: &'s R,
     setting: &'s Setting,
-    stage: &'s Stage,
+    state: &'s RunState,
     gate: &'s G,
     receivers: Vec<Receiver>,
     handles: &mut Vec<PromisedHandle<Returned, Owed<G>>>,
 ) -> Result<(), RunFault>
-    requires place { stage.now.cluster.place ≡ setting.now.place }
+    requires place { state.now.cluster.place ≡ setting.now.place }
     requires receivers { AreReceiversOf setting.now receivers.items }
     requires none { handles.old.items ≡ [] }
-    ensures all { OnOk result (map (λ (h : _). h.promise.who) handles.new.items ≡ map (λ r. HeldByReceiver r.dc) receivers.items) }
+    ensures all { OnOk result (map (λ (h : _). h.promise.owner) handles.new.items ≡ map (λ r. HeldByReceiver r.dc) receivers.items) }
     ensures promised { All (λ (h : _). (h.promise.gate.value ≡ gate.now) × (h.promise.setting.value ≡ setting.now)) handles.new.items }
     ensures fault { result ≡ Err RunFault.Held → ⊥ }
     ensures unwritten { (n : ℕ) → result ≡ Err (RunFault.WriteFailed n) → ⊥ }
@@ -238,8 +238,8 @@ fn start_receivers<'s, E, R: Threads + Wait + Sync, G: Gate>(
             Owed::of(Holder::Receiver(receiver.dc()), setting, gate),
             move || -> Returned
                 ensures share { result.share.holder ≡ receiver.share.holder }
-                ensures held { result.end ≡ End.Held → MayHoldReceiving stage.entry.now.cluster (G.may_hold gate.entry.now) }
-            { receive(rt, stage, gate, receiver) },
+                ensures held { result.end ≡ End.Held → MayHoldReceiving state.entry.now.cluster (G.may_hold gate.entry.now) }
+            { receive(rt, state, gate, receiver) },
         );
         let Ok(handle) = started else {
             return Err(RunFault::NoThread);

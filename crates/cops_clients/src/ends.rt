@@ -31,7 +31,7 @@ pub(crate) struct Returned {
 /// The promise that a thread returns this holder's share, and ends with `Held` only where this gate may hold a step in
 /// this setting.
 pub(crate) struct Owed<G: Gate> {
-    who: Holder,
+    owner: Holder,
     gate: Snapshot<G>,
     setting: Snapshot<Setting>,
 }
@@ -40,13 +40,13 @@ impl<G: Gate> Owed<G> {
     ghost use Rattle.std.specs.Prelude.{◌≡◌};
 
     /// The promise of this holder's thread.
-    pub(crate) fn of(who: Holder, setting: &Setting, gate: &G) -> Self
-        ensures who { result.who ≡ who }
+    pub(crate) fn of(owner: Holder, setting: &Setting, gate: &G) -> Self
+        ensures owner { result.owner ≡ owner }
         ensures gate { result.gate.value ≡ gate.now }
         ensures setting { result.setting.value ≡ setting.now }
     {
         Owed {
-            who,
+            owner,
             gate: Snapshot::of(gate),
             setting: Snapshot::of(setting),
         }
@@ -56,7 +56,7 @@ impl<G: Gate> Owed<G> {
 impl<G: Gate> Drop for Owed<G> {
     fn drop(self) {
         let Owed {
-            who: _who,
+            owner: _owner,
             gate: _gate,
             setting: _setting,
         } = self;
@@ -68,5 +68,5 @@ impl<G: Gate> Promise<Returned> for Owed<G> {
     ghost use Rattle.cops_clients.specs.declared.ends.End.TheVariants.{Held};
     ghost use Rattle.cops_clients.specs.Gates.{MayHold};
 
-    ghost kept_by = { λ p r. (r.share.holder ≡ p.who) × (r.end ≡ Held → MayHold p.setting.value (G.may_hold p.gate.value)) };
+    ghost kept_by = { λ p r. (r.share.holder ≡ p.owner) × (r.end ≡ Held → MayHold p.setting.value (G.may_hold p.gate.value)) };
 }

@@ -4,7 +4,7 @@ ghost use Rattle.cops_types.specs.Counted.{failures, inner};
 ghost use Rattle.cops_trace.specs.Live.{IsCutBy, IsHeardBy, IsLive};
 ghost use Rattle.cops_clients.specs.Live.{Follows, MayCome};
 
-use crate::stage::Stage;
+use crate::state::RunState;
 use cops_cluster::Tail;
 use cops_trace::{LiveTrace, Record, Unwritten};
 use std::io::Write;
@@ -14,7 +14,7 @@ use std::sync::Wait;
 /// of turns.
 pub(crate) fn follow<R: Wait, W: Write>(
     rt: &R,
-    stage: &Stage,
+    state: &RunState,
     live: LiveTrace<W>,
 ) -> Result<LiveTrace<W>, Unwritten<W>>
     requires { IsLive W.contents live }
@@ -24,11 +24,11 @@ pub(crate) fn follow<R: Wait, W: Write>(
     ensures heard { IfErr result (λ u. IsHeardBy u.fault (failures live.begun.value) (failures u.writer)) }
 {
     let mut live = live;
-    for _ in 0..stage.turns() {
-        if stage.are_clients_joined() {
+    for _ in 0..state.turns() {
+        if state.are_clients_joined() {
             break;
         }
-        live = match turn(rt, stage, live) {
+        live = match turn(rt, state, live) {
             Ok(live) => live,
             Err(unwritten) => return Err(unwritten),
         };
@@ -40,7 +40,7 @@ pub(crate) fn follow<R: Wait, W: Write>(
 /// the next turn tries again.
 fn turn<R: Wait, W: Write>(
     rt: &R,
-    stage: &Stage,
+    state: &RunState,
     live: LiveTrace<W>,
 ) -> Result<LiveTrace<W>, Unwritten<W>>
     requires { IsLive W.contents live }
@@ -49,15 +49,15 @@ fn turn<R: Wait, W: Write>(
     ensures cut { IfErr result (λ u. IsCutBy u.fault (W.contents (inner live.begun.value)) (W.contents (inner u.writer))) }
     ensures heard { IfErr result (λ u. IsHeardBy u.fault (failures live.begun.value) (failures u.writer)) }
 {
-    let tail = match stage.cluster().records_from(rt, live.len()) {
+    let tail = match state.cluster().records_from(rt, live.len()) {
         Ok(tail) => tail,
         Err(_) => {
-            stage.rest(rt);
+            state.rest(rt);
             return Ok(live);
         }
     };
     if tail.records().is_empty() {
-        stage.rest(rt);
+        state.rest(rt);
     }
     add(live, &tail)
 }

@@ -49,7 +49,7 @@ impl Gathered {
     )
         requires promised { All (λ (h : _). (h.promise.gate.value ≡ gate.now) × (h.promise.setting.value ≡ setting.now)) handles.items }
         requires held { IsTrue self.old.held → MayHold setting.now (G.may_hold gate.now) }
-        ensures shares { IsTrue self.new.lost ⊎ (holders self.new.shares.items ≡ holders self.old.shares.items ++ map (λ (h : _). h.promise.who) handles.items) }
+        ensures shares { IsTrue self.new.lost ⊎ (holders self.new.shares.items ≡ holders self.old.shares.items ++ map (λ (h : _). h.promise.owner) handles.items) }
         ensures lost { IsTrue self.old.lost → IsTrue self.new.lost }
         ensures held { IsTrue self.new.held → MayHold setting.now (G.may_hold gate.now) }
     {

@@ -18,7 +18,7 @@ mod opening;
 mod ran;
 mod replicas;
 mod running;
-mod stage;
+mod state;
 mod tries;
 
 pub use cops_cluster::{

@@ -3,7 +3,7 @@ ghost use Rattle.std.specs.Prelude.{◌≡◌, ℕ, List, Option, Ok, Err, IfErr
 ghost use Rattle.std.specs.Io.KnownBytes.{Appends};
 ghost use Rattle.cops_types.specs.Counted.{failures, inner};
 ghost use Rattle.cops_types.specs.Verdicts.{HasAcceptedVerdict};
-ghost use Rattle.cops_trace.specs.Live.{IsCutBy, IsFrontOf, IsHeardBy, IsLive};
+ghost use Rattle.cops_trace.specs.Live.{IsCutBy, IsPrefixOf, IsHeardBy, IsLive};
 ghost use Rattle.cops_trace.specs.Text.{sessions_of, text};
 ghost use Rattle.cops_scenario.specs.Scenario.{setting_of};
 ghost use Rattle.cops_tie.specs.Runs.{IsRun};
@@ -132,8 +132,8 @@ fn driven<R: Threads + Wait + Sync, G: Gate, W: Write + Send + Drop>(
     opening: Opening<'_>,
     live: LiveTrace<W>,
 ) -> Live<W>
-    requires place { opening.stage.cluster.place ≡ setting.now.place }
-    requires clients { opening.stage.cluster.clients ≡ length setting.now.homes }
+    requires place { opening.state.cluster.place ≡ setting.now.place }
+    requires clients { opening.state.cluster.clients ≡ length setting.now.homes }
     requires jobs { AreJobsOf setting.now opening.jobs.items }
     requires receivers { AreReceiversOf setting.now opening.replicas.receivers.items }
     requires live { IsLive W.contents live }
@@ -146,7 +146,7 @@ fn driven<R: Threads + Wait + Sync, G: Gate, W: Write + Send + Drop>(
     ensures failed { IfErr result.ran (λ e. IsHeardFor e (failures live.begun.value) (failures result.writer)) }
 {
     let Opening {
-        stage,
+        state,
         jobs,
         replicas,
     } = opening;
@@ -158,17 +158,17 @@ fn driven<R: Threads + Wait + Sync, G: Gate, W: Write + Send + Drop>(
             ensures live { IfOk result (IsLive W.contents) }
             ensures cut { IfErr result (λ u. IsCutBy u.fault (W.contents (inner live.begun.value)) (W.contents (inner u.writer))) }
             ensures heard { IfErr result (λ u. IsHeardBy u.fault (failures live.begun.value) (failures u.writer)) }
-        { follow(rt, &stage, live) },
+        { follow(rt, &state, live) },
         || -> Result<Gathered, RunFault>
-            requires place { stage.cluster.place ≡ setting.now.place }
+            requires place { state.cluster.place ≡ setting.now.place }
             requires jobs { AreJobsOf setting.now jobs.items }
             requires receivers { AreReceiversOf setting.now replicas.receivers.items }
             ensures shares { IfOk result (λ g. holders g.shares.items ≡ callers jobs.entry.items replicas.receivers.items) }
             ensures held { IsErrOf result RunFault.Held → MayHold setting.entry.now (G.may_hold gate.entry.now) }
             ensures unwritten { (n : ℕ) → result ≡ Err (RunFault.WriteFailed n) → ⊥ }
-        { drive(rt, alloc, setting, &stage, gate, jobs, replicas) },
+        { drive(rt, alloc, setting, &state, gate, jobs, replicas) },
     );
-    let ran = ended(rt, alloc, setting, clients, stage, gathered);
+    let ran = ended(rt, alloc, setting, clients, state, gathered);
     match followed {
         Ok(live) => finished(alloc, ran, live),
         Err(unwritten) => broken(ran, unwritten),
@@ -186,7 +186,7 @@ fn finished<W: Write>(alloc: Global, ran: Result<Run, RunFault>, live: LiveTrace
     ensures heard { IfOk result.ran (λ _. failures result.writer ≡ failures live.begun.value) }
     ensures cut { IfErr result.ran (λ e. IsCutFor e (W.contents (inner live.begun.value)) (W.contents (inner result.writer))) }
     ensures failed { IfErr result.ran (λ e. IsHeardFor e (failures live.begun.value) (failures result.writer)) }
-    ensures another { IfOk ran (λ r. IfErr result.ran (WhereUntied (λ ticket. (ticket ≡ ticket_above 0 r.entries.items) × (IsFrontOf live.text.items r.trace → ⊥)))) }
+    ensures another { IfOk ran (λ r. IfErr result.ran (WhereUntied (λ ticket. (ticket ≡ ticket_above 0 r.entries.items) × (IsPrefixOf live.text.items r.trace → ⊥)))) }
 {
     let run = match ran {
         Ok(run) => run,

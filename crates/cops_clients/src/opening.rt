@@ -5,8 +5,8 @@ ghost use Rattle.cops_replication.specs.Wiring.{AreSenders};
 ghost use Rattle.cops_clients.specs.Opening.{HasItsScript};
 ghost use Rattle.cops_clients.specs.Callers.{AreJobsOf, AreReceiversOf};
 
-use crate::clients::Job;
-use crate::stage::Stage;
+use crate::clients::ClientTask;
+use crate::state::RunState;
 use cops_cluster::{Client, Cluster, Opened};
 use cops_core::{ScriptedClient, Setting};
 use cops_replication::{Replicas, wired};
@@ -17,8 +17,8 @@ use std::alloc::Global;
 /// What a run starts with: the stage, each client with its script, and the senders and receivers.
 #[derive(Drop)]
 pub(crate) struct Opening<'a> {
-    pub(crate) stage: Stage,
-    pub(crate) jobs: Vec<Job<'a>>,
+    pub(crate) state: RunState,
+    pub(crate) jobs: Vec<ClientTask<'a>>,
     pub(crate) replicas: Replicas,
 }
 
@@ -31,13 +31,13 @@ pub(crate) fn opened<'a>(
     scenario: &'a Scenario,
 ) -> Result<Opening<'a>, Memory>
     requires { setting.now ≡ setting_of scenario.now }
-    ensures format { IfOk result (λ o. o.stage.cluster.format ≡ setting.now.format) }
-    ensures place { IfOk result (λ o. o.stage.cluster.place ≡ setting.now.place) }
-    ensures turns { IfOk result (λ o. o.stage.turns ≡ scenario.now.turns) }
-    ensures retries { IfOk result (λ o. o.stage.retries ≡ scenario.now.retries) }
-    ensures hold { IfOk result (λ o. o.stage.hold ≡ scenario.now.hold) }
+    ensures format { IfOk result (λ o. o.state.cluster.format ≡ setting.now.format) }
+    ensures place { IfOk result (λ o. o.state.cluster.place ≡ setting.now.place) }
+    ensures turns { IfOk result (λ o. o.state.turns ≡ scenario.now.turns) }
+    ensures retries { IfOk result (λ o. o.state.retries ≡ scenario.now.retries) }
+    ensures hold { IfOk result (λ o. o.state.hold ≡ scenario.now.hold) }
     ensures repeat { IfOk result (λ o. All (λ s. s.repeat ≡ scenario.now.repeat) o.replicas.senders.items) }
-    ensures clients { IfOk result (λ o. o.stage.cluster.clients ≡ length setting.now.homes) }
+    ensures clients { IfOk result (λ o. o.state.cluster.clients ≡ length setting.now.homes) }
     ensures jobs { IfOk result (λ o. AreJobsOf setting.now o.jobs.items) }
     ensures scripts { IfOk result (λ o. All (HasItsScript scenario.now.clients) o.jobs.items) }
     ensures receivers { IfOk result (λ o. AreReceiversOf setting.now o.replicas.receivers.items) }
@@ -71,7 +71,7 @@ pub(crate) fn opened<'a>(
         }
     };
     Ok(Opening {
-        stage: Stage::new(
+        state: RunState::new(
             cluster,
             scenario.turns(),
             scenario.retries(),
@@ -87,7 +87,7 @@ fn jobs(
     alloc: Global,
     scripted: &[ScriptedClient],
     clients: Vec<Client>,
-) -> Result<Vec<Job<'_>>, Memory>
+) -> Result<Vec<ClientTask<'_>>, Memory>
     requires { All (λ c. c.number < length scripted.now) clients.items }
     ensures clients { IfOk result (λ jobs. map (λ j. j.client) jobs.items ≡ clients.items) }
     ensures scripts { IfOk result (λ jobs. All (HasItsScript scripted.now) jobs.items) }
@@ -95,7 +95,7 @@ fn jobs(
     let mut jobs = Vec::new(alloc);
     for client in clients {
         let it = &scripted[usize::from(client.number())];
-        jobs.push(Job {
+        jobs.push(ClientTask {
             client,
             script: &it.script,
         })?;

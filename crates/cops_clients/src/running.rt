@@ -4,7 +4,7 @@ ghost use Rattle.cops_types.specs.declared.limits.TheConstants.{NODES, PLACES};
 ghost use Rattle.cops_types.specs.Verdicts.{HasAcceptedVerdict};
 ghost use Rattle.cops_trace.specs.Text.{sessions_of};
 ghost use Rattle.cops_scenario.specs.Scenario.{setting_of};
-ghost use Rattle.cops_cluster.specs.Close.{AreAll, made_in, told};
+ghost use Rattle.cops_cluster.specs.Close.{AreAll, made_in, reported};
 ghost use Rattle.cops_cluster.specs.Differences.{IsLeastDifference};
 ghost use Rattle.cops_tie.specs.NoRun.{IsNoRun, WhereNoRun};
 ghost use Rattle.cops_tie.specs.Runs.{IsRun};
@@ -16,7 +16,7 @@ use crate::fault::RunFault;
 use crate::gathering::Gathered;
 use crate::opening::{Opening, opened};
 use crate::ran::Run;
-use crate::stage::Stage;
+use crate::state::RunState;
 use cops_book::Entry;
 use cops_cluster::{CloseFault, Closed, Cluster, Share, Uncompared, difference_of_lists};
 use cops_core::{Event, ScriptedClient, Setting};
@@ -93,12 +93,12 @@ fn ran_in<R: Threads + Wait + Sync, G: Gate>(
         Err(_) => return Err(RunFault::Memory),
     };
     let Opening {
-        stage,
+        state,
         jobs,
         replicas,
     } = opening;
-    let driven = drive(rt, alloc, setting, &stage, gate, jobs, replicas);
-    ended(rt, alloc, setting, scenario.clients(), stage, driven)
+    let driven = drive(rt, alloc, setting, &state, gate, jobs, replicas);
+    ended(rt, alloc, setting, scenario.clients(), state, driven)
 }
 
 /// The run that has ended on this stage, from what the threads left.
@@ -107,20 +107,20 @@ pub(crate) fn ended<R: Threads + Sync>(
     alloc: Global,
     setting: &Setting,
     clients: &[ScriptedClient],
-    stage: Stage,
+    state: RunState,
     driven: Result<Gathered, RunFault>,
 ) -> Result<Run, RunFault>
-    requires place { stage.cluster.place ≡ setting.now.place }
-    requires all { IfOk driven (λ g. AreAll stage.cluster.clients stage.cluster.place.dcs g.shares.items) }
+    requires place { state.cluster.place ≡ setting.now.place }
+    requires all { IfOk driven (λ g. AreAll state.cluster.clients state.cluster.place.dcs g.shares.items) }
     ensures ok { IfOk result (λ r. IsRun setting.now clients.now (map (λ b. b.items) r.entries.items) (sessions_of r.trace) r.events.items r.outcomes.items) }
     ensures accepted { IfOk result (λ r. HasAcceptedVerdict (sessions_of r.trace)) }
     ensures fault { IsErrOf result RunFault.Held → IsErrOf driven RunFault.Held }
     ensures unwritten { (n : ℕ) → result ≡ Err (RunFault.WriteFailed n) → driven ≡ Err (RunFault.WriteFailed n) }
 {
     match driven {
-        Ok(gathered) => tied(rt, alloc, setting, clients, stage.into_cluster(), gathered),
+        Ok(gathered) => tied(rt, alloc, setting, clients, state.into_cluster(), gathered),
         Err(fault) => {
-            drop(stage);
+            drop(state);
             Err(fault)
         }
     }
@@ -140,7 +140,7 @@ fn tied<R: Threads + Sync>(
     requires all { AreAll cluster.clients cluster.place.dcs gathered.shares.items }
     ensures ok { IfOk result (λ r. IsRun setting.now clients.now (map (λ b. b.items) r.entries.items) (sessions_of r.trace) r.events.items r.outcomes.items) }
     ensures accepted { IfOk result (λ r. HasAcceptedVerdict (sessions_of r.trace)) }
-    ensures told { IfOk result (λ r. IsPermutation (made_in (length setting.now.place.splits + 1) 0 r.entries.items) (told gathered.shares.items)) }
+    ensures reported { IfOk result (λ r. IsPermutation (made_in (length setting.now.place.splits + 1) 0 r.entries.items) (reported gathered.shares.items)) }
     ensures fault { result ≡ Err RunFault.Held → ⊥ }
     ensures unwritten { (n : ℕ) → result ≡ Err (RunFault.WriteFailed n) → ⊥ }
 {
@@ -186,11 +186,11 @@ fn examined<R: Threads + Sync>(
     requires { length books.now ≡ setting.now.place.dcs * (length setting.now.place.splits + 1) }
     ensures ok { IfOk result (λ events. IsRun setting.now clients.now (map (λ b. b.items) books.now) (sessions_of trace.now) events.items outcomes.now) }
     ensures accepted { OnOk result (HasAcceptedVerdict (sessions_of trace.now)) }
-    ensures told { OnOk result (IsPermutation (made_in (length setting.now.place.splits + 1) 0 books.now) (told shares.items)) }
+    ensures reported { OnOk result (IsPermutation (made_in (length setting.now.place.splits + 1) 0 books.now) (reported shares.items)) }
     ensures fault { result ≡ Err RunFault.Held → ⊥ }
     ensures unwritten { (n : ℕ) → result ≡ Err (RunFault.WriteFailed n) → ⊥ }
     ensures untied { IfErr result (WhereUntied (λ ticket.
-        IsLeastDifference (made_in (length setting.now.place.splits + 1) 0 books.now) (told shares.items) ticket
+        IsLeastDifference (made_in (length setting.now.place.splits + 1) 0 books.now) (reported shares.items) ticket
         ⊎ IsNoRun setting.now clients.now (map (λ b. b.items) books.now) (sessions_of trace.now) outcomes.now ticket)) }
 {
     let places = setting.nodes();
@@ -199,10 +199,10 @@ fn examined<R: Threads + Sync>(
         || -> Result<(), RunFault>
             requires places { (0 < places) × (places ≤ PLACES) }
             requires few { length books.now ≤ NODES }
-            ensures told { OnOk result (IsPermutation (made_in places 0 books.entry.now) (told shares.items)) }
+            ensures reported { OnOk result (IsPermutation (made_in places 0 books.entry.now) (reported shares.items)) }
             ensures fault { result ≡ Err RunFault.Held → ⊥ }
             ensures unwritten { (n : ℕ) → result ≡ Err (RunFault.WriteFailed n) → ⊥ }
-            ensures untied { IfErr result (WhereUntied (IsLeastDifference (made_in places 0 books.entry.now) (told shares.items))) }
+            ensures untied { IfErr result (WhereUntied (IsLeastDifference (made_in places 0 books.entry.now) (reported shares.items))) }
         { compare(alloc, places, books, shares) },
         || -> Result<Vec<Event>, CheckFault>
             requires { length books.now ≡ setting.now.place.dcs * (length setting.now.place.splits + 1) }
@@ -231,10 +231,10 @@ fn compare(
 ) -> Result<(), RunFault>
     requires places { (0 < places) × (places ≤ PLACES) }
     requires few { length books.now ≤ NODES }
-    ensures told { OnOk result (IsPermutation (made_in places 0 books.now) (told shares.items)) }
+    ensures reported { OnOk result (IsPermutation (made_in places 0 books.now) (reported shares.items)) }
     ensures fault { result ≡ Err RunFault.Held → ⊥ }
     ensures unwritten { (n : ℕ) → result ≡ Err (RunFault.WriteFailed n) → ⊥ }
-    ensures untied { IfErr result (WhereUntied (IsLeastDifference (made_in places 0 books.now) (told shares.items))) }
+    ensures untied { IfErr result (WhereUntied (IsLeastDifference (made_in places 0 books.now) (reported shares.items))) }
 {
     match difference_of_lists(alloc, places, books, &shares) {
         Ok(None) => Ok(()),

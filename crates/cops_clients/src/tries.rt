@@ -4,7 +4,7 @@ ghost use Rattle.cops_cluster.specs.Cluster.{IsSameClient};
 ghost use Rattle.cops_clients.specs.Gates.{MayHoldIn};
 ghost use Rattle.cops_clients.specs.Trying.{refusal_in};
 
-use crate::stage::Stage;
+use crate::state::RunState;
 use cops_cluster::Client;
 use cops_core::ScriptOp;
 use cops_node::Outcome;
@@ -48,7 +48,7 @@ impl Tries {
     pub(crate) fn attempt<R: Wait, G: Gate>(
         &mut self,
         rt: &R,
-        stage: &Stage,
+        state: &RunState,
         gate: &G,
         client: &mut Client,
         op: &ScriptOp,
@@ -56,10 +56,10 @@ impl Tries {
         requires few { self.old.made < 65535 }
         requires fewer { self.old.wanting ≤ self.old.made }
         ensures same { IsSameClient client.old client.new }
-        ensures held { OnErr result (MayHoldIn (G.may_hold gate.now) (length stage.now.cluster.place.splits + 1) client.old.dc client.old.number) }
+        ensures held { OnErr result (MayHoldIn (G.may_hold gate.now) (length state.now.cluster.place.splits + 1) client.old.dc client.old.number) }
         ensures tried { IfOk result (λ refused. IsTry self.old refused self.new) }
     {
-        let outcome = outcome_of(rt, stage, gate, client, op)?;
+        let outcome = outcome_of(rt, state, gate, client, op)?;
         let refused = refusal(&outcome);
         self.made += 1;
         if refused == Some(Refusal::Memory) {
@@ -74,13 +74,13 @@ impl Tries {
 /// `Memory`.
 fn outcome_of<R: Wait, G: Gate>(
     rt: &R,
-    stage: &Stage,
+    state: &RunState,
     gate: &G,
     client: &mut Client,
     op: &ScriptOp,
 ) -> Result<Outcome, GateHeld>
     ensures same { IsSameClient client.old client.new }
-    ensures held { OnErr result (MayHoldIn (G.may_hold gate.now) (length stage.now.cluster.place.splits + 1) client.old.dc client.old.number) }
+    ensures held { OnErr result (MayHoldIn (G.may_hold gate.now) (length state.now.cluster.place.splits + 1) client.old.dc client.old.number) }
 {
     match op {
         ScriptOp::Put { key, value } => {
@@ -90,19 +90,19 @@ fn outcome_of<R: Wait, G: Gate>(
             let Ok(value) = value.clone() else {
                 return Ok(Outcome::Refused(Refusal::Memory));
             };
-            stage.cluster().put(rt, client, gate, key, value)
+            state.cluster().put(rt, client, gate, key, value)
         }
         ScriptOp::Del { key } => {
             let Ok(key) = key.clone() else {
                 return Ok(Outcome::Refused(Refusal::Memory));
             };
-            stage.cluster().del(rt, client, gate, key)
+            state.cluster().del(rt, client, gate, key)
         }
         ScriptOp::Get { key } => {
             let Ok(key) = key.clone() else {
                 return Ok(Outcome::Refused(Refusal::Memory));
             };
-            stage.cluster().get(rt, client, gate, key)
+            state.cluster().get(rt, client, gate, key)
         }
     }
 }

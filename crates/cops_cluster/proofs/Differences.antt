@@ -48,13 +48,13 @@ module _ {X : Type 0} (n : X → ℕ) where
       omega (arith, ap n (get_or-drop i xs k d), sorted i (i + k) d (omega arith) inside, first d (omega arith))
 
   module _ (xs ys : List X) (i t : ℕ) (front : take i xs ≡ take i ys) (first : All (λ x. t ≤ n x) (drop i xs)) (second : All (λ x. t ≤ n x) (drop i ys)) where
-    front_at : (zs : List X) (u : ℕ) → u < t → All (λ x. t ≤ n x) (drop i zs) → at u zs ≡ at u (take i zs)
-    front_at zs u less rest =
+    prefix_at : (zs : List X) (u : ℕ) → u < t → All (λ x. t ≤ n x) (drop i zs) → at u zs ≡ at u (take i zs)
+    prefix_at zs u less rest =
         at_split u i zs ∙ (ap (λ l. at u (take i zs) ++ l) (none_at u (drop i zs) (All-weaker (λ x. t ≤ n x) (λ x. u < n x) (λ x le. omega arith) (drop i zs) rest)) ∙ append-nil (at u (take i zs)))
 
     same_below : (u : ℕ) → u < t → IsPermutation (at u xs) (at u ys)
     same_below u less =
-        let e : at u xs ≡ at u ys = front_at xs u less first ∙ (ap (at u) front ∙ sym (front_at ys u less second)) in
+        let e : at u xs ≡ at u ys = prefix_at xs u less first ∙ (ap (at u) front ∙ sym (prefix_at ys u less second)) in
         subst (IsPermutation (at u xs)) e (IsPermutation-refl (at u xs))
 
     apart_behind : (IsPermutation (at t (drop i xs)) (at t (drop i ys)) → ⊥) → IsPermutation (at t xs) (at t ys) → ⊥

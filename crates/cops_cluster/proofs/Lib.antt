@@ -1,4 +1,4 @@
-pub mod Tellings
+pub mod Reports
 pub mod Marks
 pub mod Lists
 pub mod Shuffles

@@ -7,35 +7,35 @@ use Rattle.cops_node.specs.declared.outcome.Outcome.{Outcome}
 use Rattle.cops_cluster.specs.declared.fault.Stop.{Stop}
 use Rattle.cops_cluster.specs.declared.fault.Stop.TheVariants.{Refused, GateHeld as HeldThere}
 use Rattle.cops_cluster.specs.declared.receiving.Yes.{Yes}
-use Rattle.cops_cluster.specs.declared.stepping.Reply.{Reply}
-use Rattle.cops_cluster.specs.declared.stepping.Seen.{Seen}
+use Rattle.cops_cluster.specs.declared.stepping.NodeReply.{NodeReply}
+use Rattle.cops_cluster.specs.declared.stepping.CopiedOutcome.{CopiedOutcome}
 use Rattle.cops_cluster.specs.Shares.{is_of_node}
 use Rattle.cops_cluster.specs.Cluster.{IsStop}
 use Rattle.cops_cluster.specs.Outcomes.{StopsWith}
 use Rattle.cops_cluster.specs.Receiving.{IsAllowedMark, IsMarkedAs, IsUnaskedMark}
 use Rattle.cops_cluster.specs.Replies.{IsReplyOf, IsReplyOfSeen}
-use Rattle.cops_cluster.proofs.Tellings.{true_is_false}
+use Rattle.cops_cluster.proofs.Reports.{true_is_false}
 
 unasked_of : (answer : Yes) (dc version dep : ℕ) (may_hold : Point → Type 0) (at client : ℕ) (stop : Stop) (out : Outcome) → StopsWith (IsUnaskedMark answer dc version dep) stop
     → IsStop may_hold at client stop → IsReplyOf (Err stop) out → IsMarkedAs answer dc version dep out
-unasked_of answer dc version dep may_hold at client (Refused code) out unasked other told = (
-  λ h. true_is_false (is_of_node out) h (ap is_of_node told ∙ other),
-  λ _. subst (λ (o : Outcome). IsUnaskedMark answer dc version dep o) (sym told) unasked,
+unasked_of answer dc version dep may_hold at client (Refused code) out unasked other reported = (
+  λ h. true_is_false (is_of_node out) h (ap is_of_node reported ∙ other),
+  λ _. subst (λ (o : Outcome). IsUnaskedMark answer dc version dep o) (sym reported) unasked,
 )
-unasked_of answer dc version dep may_hold at client HeldThere out unasked other told = absurd told
+unasked_of answer dc version dep may_hold at client HeldThere out unasked other reported = absurd reported
 
 -- the result of a mark is a node's answer, where the mark was allowed, or why no node was asked
-pub told_marked : (answer : Yes) (dc version dep : ℕ) (may_hold : Point → Type 0) (at client number : ℕ) (answered : Result Seen Stop) (reply : Result Reply Stop) (result : Result Outcome GateHeld)
+pub reported_marked : (answer : Yes) (dc version dep : ℕ) (may_hold : Point → Type 0) (at client number : ℕ) (answered : Result CopiedOutcome Stop) (reply : Result NodeReply Stop) (result : Result Outcome GateHeld)
     → IfOk answered (λ t. IsAllowedMark answer dc version dep t.outcome) → IfOk answered (λ t. (t.seen ≡ t.outcome) × (is_of_node t.outcome ≡ true))
     → IfErr answered (StopsWith (IsUnaskedMark answer dc version dep)) → IfErr answered (IsStop may_hold at client) → IsReplyOfSeen number answered reply → IfOk result (IsReplyOf reply)
     → IfOk result (IsMarkedAs answer dc version dep)
-told_marked answer dc version dep may_hold at client number answered reply (Err e) allowed is unasked stop same told = tt
-told_marked answer dc version dep may_hold at client number (Ok t) (Ok r) (Ok out) allowed is unasked stop same told =
-    let e : out ≡ t.outcome = told ∙ same.0 in (
+reported_marked answer dc version dep may_hold at client number answered reply (Err e) allowed is unasked stop same reported = tt
+reported_marked answer dc version dep may_hold at client number (Ok t) (Ok r) (Ok out) allowed is unasked stop same reported =
+    let e : out ≡ t.outcome = reported ∙ same.0 in (
       λ _. subst (λ (o : Outcome). IsAllowedMark answer dc version dep o) (sym e) allowed,
       λ other. true_is_false (is_of_node out) (ap is_of_node e ∙ is.1) other,
     )
-told_marked answer dc version dep may_hold at client number (Ok t) (Err s) (Ok out) allowed is unasked stop same told = absurd same
-told_marked answer dc version dep may_hold at client number (Err s) (Ok r) (Ok out) allowed is unasked stop same told = absurd same
-told_marked answer dc version dep may_hold at client number (Err s) (Err t) (Ok out) allowed is unasked stop same told =
-    unasked_of answer dc version dep may_hold at client s out unasked stop (subst (λ (x : Stop). IsReplyOf (Err x) out) same told)
+reported_marked answer dc version dep may_hold at client number (Ok t) (Err s) (Ok out) allowed is unasked stop same reported = absurd same
+reported_marked answer dc version dep may_hold at client number (Err s) (Ok r) (Ok out) allowed is unasked stop same reported = absurd same
+reported_marked answer dc version dep may_hold at client number (Err s) (Err t) (Ok out) allowed is unasked stop same reported =
+    unasked_of answer dc version dep may_hold at client s out unasked stop (subst (λ (x : Stop). IsReplyOf (Err x) out) same reported)

@@ -78,19 +78,19 @@ module _ {X : Type 0} where
       let q = taken_out a t r.0 r.1.0 in
       (q.0, (q.1.0, both r.1.1 q.1.1))
 
-  to_front : {a : X} {xs ys : List X} → PutIn a xs ys → Shuffles (a ∷ xs) ys
-  to_front here = same _
-  to_front (further j) = both flip (behind (to_front j))
+  to_prefix : {a : X} {xs ys : List X} → PutIn a xs ys → Shuffles (a ∷ xs) ys
+  to_prefix here = same _
+  to_prefix (further j) = both flip (behind (to_prefix j))
 
   without_first : (a b : X) {xs ys zs : List X} → b ≡ a → PutIn a zs (b ∷ ys) → Shuffles xs zs → Shuffles xs ys
   without_first a b e here s = s
-  without_first a b {xs} e (further {xs = zs} j) s = both (subst (λ (x : X). Shuffles xs (x ∷ zs)) e s) (to_front j)
+  without_first a b {xs} e (further {xs = zs} j) s = both (subst (λ (x : X). Shuffles xs (x ∷ zs)) e s) (to_prefix j)
 
-  without_front : (zs : List X) {xs ys : List X} → Shuffles (zs ++ xs) (zs ++ ys) → Shuffles xs ys
-  without_front [] s = s
-  without_front (z ∷ zs) {xs} s =
+  without_prefix : (zs : List X) {xs ys : List X} → Shuffles (zs ++ xs) (zs ++ ys) → Shuffles xs ys
+  without_prefix [] s = s
+  without_prefix (z ∷ zs) {xs} s =
       let r = taken_out z s (zs ++ xs) here in
-      without_front zs (without_first z z refl r.1.0 r.1.1)
+      without_prefix zs (without_first z z refl r.1.0 r.1.1)
 
   -- filtering keeps lists permutations of each other
   pub IsPermutation-filter : (p : X → Bool) (xs ys : List X) → IsPermutation xs ys → IsPermutation (filter p xs) (filter p ys)
@@ -98,4 +98,4 @@ module _ {X : Type 0} where
 
   -- removing a common prefix keeps lists permutations of each other
   pub IsPermutation-cancel_left : (zs xs ys : List X) → IsPermutation (zs ++ xs) (zs ++ ys) → IsPermutation xs ys
-  IsPermutation-cancel_left zs xs ys h = to_permutation (without_front zs (from_permutation (zs ++ xs) (zs ++ ys) h))
+  IsPermutation-cancel_left zs xs ys h = to_permutation (without_prefix zs (from_permutation (zs ++ xs) (zs ++ ys) h))

@@ -39,9 +39,9 @@ abbrev pub AllReplay : ℕ → List (Vec Entry) → Type 0
 AllReplay places lists = (n : ℕ) (d : Vec Entry) → n < length lists → IsReplay (number_of places n) (slice_index_or lists n d).items
 
 -- all entries of the shares
-abbrev pub told : List Share → List Made
-told [] = []
-told (s ∷ ss) = s.entries.items ++ told ss
+abbrev pub reported : List Share → List Made
+reported [] = []
+reported (s ∷ ss) = s.entries.items ++ reported ss
 
 -- whether a holder has this seat: the clients have the first seats, and the receivers follow
 abbrev pub is_seat : ℕ → ℕ → Holder → Bool

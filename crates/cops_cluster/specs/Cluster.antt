@@ -14,7 +14,7 @@ use Rattle.cops_place.specs.Place.{primary}
 use Rattle.cops_types.specs.NodeNumber.{node_number}
 use Rattle.cops_book.specs.Book.{puts_in}
 use Rattle.cops_book.specs.declared.entry.Entry.{Entry}
-use Rattle.cops_book.specs.declared.told.Puts.{Puts}
+use Rattle.cops_book.specs.declared.reported.IssuedPuts.{IssuedPuts}
 use Rattle.cops_cluster.specs.declared.client.Client.{Client}
 use Rattle.cops_cluster.specs.declared.cluster.Cluster.{Cluster}
 use Rattle.cops_cluster.specs.declared.fault.Stop.{Stop}
@@ -26,7 +26,7 @@ abbrev pub IsNode : Cluster → ℕ → ℕ → Type 0
 IsNode c dc place = (dc < c.place.dcs) × (place < length c.place.splits + 1)
 
 -- the puts that the entries of some book issued, from a place on, and the number of entries of that book
-abbrev pub IsPutsFrom : ℕ → Puts → Type 0
+abbrev pub IsPutsFrom : ℕ → IssuedPuts → Type 0
 IsPutsFrom from p = (entries : List Entry) × (p.puts.items ≡ puts_in (drop from entries)) × (p.entries ≡ length entries)
 
 -- the number of a key's node in a data centre

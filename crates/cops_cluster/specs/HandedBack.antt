@@ -7,7 +7,7 @@ use Rattle.cops_cluster.specs.declared.cluster.Cluster.{Cluster}
 use Rattle.cops_cluster.specs.declared.closing.Rooms.{Rooms}
 use Rattle.cops_cluster.specs.declared.closing.CloseFault.{CloseFault}
 use Rattle.cops_cluster.specs.declared.closing.CloseFault.TheVariants.{Memory, SharesMissing, NotKept}
-use Rattle.cops_cluster.specs.Close.{AllReplay, AreAll, made_in, told}
+use Rattle.cops_cluster.specs.Close.{AllReplay, AreAll, made_in, reported}
 use Rattle.cops_cluster.specs.Differences.{IsLeastDifference}
 
 -- there are lists of entries, one for each node of the cluster, each of which replays, and this is the least ticket at which their entries and those
@@ -16,7 +16,7 @@ pub record IsNotKept (c : Cluster) (shares : List Share) (ticket : ℕ) : Type 0
   pub books : List (Vec Entry)
   pub len : length books ≡ c.place.dcs * (length c.place.splits + 1)
   pub replays : AllReplay (length c.place.splits + 1) books
-  pub least : IsLeastDifference (made_in (length c.place.splits + 1) 0 books) (told shares) ticket
+  pub least : IsLeastDifference (made_in (length c.place.splits + 1) 0 books) (reported shares) ticket
 
 -- when memory runs out: a cluster of the same format, place and clients, and the shares; when a share is missing: everything unchanged; when the
 -- entries differ: all shares were there, and the ticket is the least at which they differ from the books

@@ -86,8 +86,8 @@ abbrev pub IsUnaskedWrite : Option (List ℕ) → Refusal → Type 0
 IsUnaskedWrite content refused = (is_refusal_of_node refused ≡ false) × IsWriteOutcome content (RefusedWith refused)
 
 -- out of memory
-abbrev pub IsWant : Outcome → Type 0
-IsWant outcome = outcome ≡ RefusedWith Memory
+abbrev pub IsOutOfMemory : Outcome → Type 0
+IsOutOfMemory outcome = outcome ≡ RefusedWith Memory
 
 -- a step that did not happen: the gate stopped it, or its refusal is one of these outcomes
 abbrev pub StopsWith : (Outcome → Type 0) → Stop → Type 0

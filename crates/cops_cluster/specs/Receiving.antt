@@ -10,7 +10,7 @@ use Rattle.cops_node.specs.Node.{Node, dep_at, node_step}
 use Rattle.cops_cluster.specs.declared.receiving.Yes.{Yes}
 use Rattle.cops_cluster.specs.declared.receiving.Asked.{Asked}
 use Rattle.cops_cluster.specs.declared.receiving.Asked.TheVariants.{Yes as AnsweredYes, Other}
-use Rattle.cops_cluster.specs.Outcomes.{IsWant}
+use Rattle.cops_cluster.specs.Outcomes.{IsOutOfMemory}
 use Rattle.cops_cluster.specs.Shares.{is_of_node}
 
 -- the answer is for this pair in this data centre
@@ -35,7 +35,7 @@ IsAllowedMark answer dc version dep outcome =
 -- a mark that never reached a node: at some node the answer Yes forbids it, or memory ran out
 abbrev pub IsUnaskedMark : Yes → ℕ → ℕ → ℕ → Outcome → Type 0
 IsUnaskedMark answer dc version dep outcome =
-    ((outcome ≡ RefusedWith NoYes) × ((node : Node) × Forbids answer dc (dep_at (waiting node.held version) dep))) ⊎ IsWant outcome
+    ((outcome ≡ RefusedWith NoYes) × ((node : Node) × Forbids answer dc (dep_at (waiting node.held version) dep))) ⊎ IsOutOfMemory outcome
 
 -- the outcome of a mark: a node's answer where the mark was allowed, and otherwise why no node was asked
 abbrev pub IsMarkedAs : Yes → ℕ → ℕ → ℕ → Outcome → Type 0

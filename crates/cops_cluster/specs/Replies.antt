@@ -6,30 +6,30 @@ use Rattle.cops_node.specs.declared.outcome.Outcome.{Outcome}
 use Rattle.cops_node.specs.declared.outcome.Outcome.TheVariants.{Refused as RefusedWith}
 use Rattle.cops_cluster.specs.declared.fault.Stop.{Stop}
 use Rattle.cops_cluster.specs.declared.fault.Stop.TheVariants.{Refused, GateHeld}
-use Rattle.cops_cluster.specs.declared.stepping.Answer.{Answer}
-use Rattle.cops_cluster.specs.declared.stepping.Reply.{Reply}
-use Rattle.cops_cluster.specs.declared.stepping.Seen.{Seen}
+use Rattle.cops_cluster.specs.declared.stepping.ClientAnswer.{ClientAnswer}
+use Rattle.cops_cluster.specs.declared.stepping.NodeReply.{NodeReply}
+use Rattle.cops_cluster.specs.declared.stepping.CopiedOutcome.{CopiedOutcome}
 
 -- the outcome is what the node answered, or the refusal that came before it
-abbrev pub IsReplyOf : Result Reply Stop → Outcome → Type 0
+abbrev pub IsReplyOf : Result NodeReply Stop → Outcome → Type 0
 IsReplyOf (Ok reply) outcome = outcome ≡ reply.outcome
 IsReplyOf (Err (Refused refused)) outcome = outcome ≡ RefusedWith refused
 IsReplyOf (Err GateHeld) outcome = ⊥
 
 -- the gate stopped the step, or may stop its caller after the node's answer
-abbrev pub WasHeld : (Point → Type 0) → ℕ → Result Reply Stop → Type 0
+abbrev pub WasHeld : (Point → Type 0) → ℕ → Result NodeReply Stop → Type 0
 WasHeld may_hold client (Ok reply) = may_hold (Answered reply.node client)
 WasHeld may_hold client (Err (Refused refused)) = ⊥
 WasHeld may_hold client (Err GateHeld) = Unit {0}
 
 -- the reply is the answer without the operation that the client saw
-abbrev pub IsSpent : Result Answer Stop → Result Reply Stop → Type 0
+abbrev pub IsSpent : Result ClientAnswer Stop → Result NodeReply Stop → Type 0
 IsSpent (Ok a) (Ok reply) = (reply.outcome ≡ a.outcome) × (reply.node ≡ a.node)
 IsSpent (Err stop) (Err same) = same ≡ stop
 IsSpent _ _ = ⊥
 
 -- the reply is the answer together with the node's number
-abbrev pub IsReplyOfSeen : ℕ → Result Seen Stop → Result Reply Stop → Type 0
+abbrev pub IsReplyOfSeen : ℕ → Result CopiedOutcome Stop → Result NodeReply Stop → Type 0
 IsReplyOfSeen node (Ok seen) (Ok reply) = (reply.outcome ≡ seen.outcome) × (reply.node ≡ node)
 IsReplyOfSeen node (Err stop) (Err same) = same ≡ stop
 IsReplyOfSeen node _ _ = ⊥

@@ -4,7 +4,7 @@ ghost use Rattle.std.specs.List.{list_any};
 ghost use Rattle.std.specs.List.Sorted.{IsPermutation};
 ghost use Rattle.cops_types.specs.declared.limits.TheConstants.{NODES, PLACES};
 ghost use Rattle.cops_cluster.specs.declared.share.Share.{Share};
-ghost use Rattle.cops_cluster.specs.Close.{AllReplay, AreAll, IsReplay, entries_at, is_seat, made_by, made_in, number_of, told};
+ghost use Rattle.cops_cluster.specs.Close.{AllReplay, AreAll, IsReplay, entries_at, is_seat, made_by, made_in, number_of, reported};
 ghost use Rattle.cops_cluster.specs.Differences.{IsLeastDifference};
 
 use crate::cluster::Cluster;
@@ -47,7 +47,7 @@ pub enum CloseFault {
 impl Cluster {
     ghost use Rattle.std.specs.Prelude.{◌≡◌, ◌+◌, ◌*◌, ℕ, length, vec_len, Err, IfOk, IfErr, IfSome, IfNone, IsTrue};
     ghost use Rattle.std.specs.List.Sorted.{IsPermutation};
-    ghost use Rattle.cops_cluster.specs.Close.{AllReplay, AreAll, made_in, told};
+    ghost use Rattle.cops_cluster.specs.Close.{AllReplay, AreAll, made_in, reported};
     ghost use Rattle.cops_cluster.specs.HandedBack.{HandsBack, HasRooms};
 
     /// Closes the cluster. Each returned list replays its node's steps from an empty node, and the lists together have
@@ -58,7 +58,7 @@ impl Cluster {
     pub fn close(self, shares: Vec<Share>) -> Result<Closed, CloseFault>
         ensures len { IfOk result (λ closed. length closed.books.items ≡ self.place.dcs * (length self.place.splits + 1)) }
         ensures replays { IfOk result (λ closed. AllReplay (length self.place.splits + 1) closed.books.items) }
-        ensures told { IfOk result (λ closed. IsPermutation (made_in (length self.place.splits + 1) 0 closed.books.items) (told shares.items)) }
+        ensures reported { IfOk result (λ closed. IsPermutation (made_in (length self.place.splits + 1) 0 closed.books.items) (reported shares.items)) }
         ensures all { IfOk result (λ _. AreAll self.clients self.place.dcs shares.items) }
         ensures back { IfErr result (HandsBack self shares) }
     {
@@ -91,7 +91,7 @@ impl Cluster {
     fn ended(self, shares: Vec<Share>, compares: bool) -> Result<Uncompared, CloseFault>
         ensures len { IfOk result (λ u. length u.closed.books.items ≡ self.place.dcs * (length self.place.splits + 1)) }
         ensures replays { IfOk result (λ u. AllReplay (length self.place.splits + 1) u.closed.books.items) }
-        ensures told { IfOk result (λ u. IsTrue compares → IsPermutation (made_in (length self.place.splits + 1) 0 u.closed.books.items) (told shares.items)) }
+        ensures reported { IfOk result (λ u. IsTrue compares → IsPermutation (made_in (length self.place.splits + 1) 0 u.closed.books.items) (reported shares.items)) }
         ensures shares { IfOk result (λ u. u.shares ≡ shares) }
         ensures all { IfOk result (λ _. AreAll self.clients self.place.dcs shares.items) }
         ensures back { IfErr result (HandsBack self shares) }
@@ -122,7 +122,7 @@ impl Cluster {
 impl Cluster {
     ghost use Rattle.std.specs.Prelude.{◌≡◌, ◌≤◌, ◌+◌, ◌*◌, ℕ, length, vec_len, vec_capacity, Err, IfOk, IfErr, IsTrue};
     ghost use Rattle.std.specs.List.Sorted.{IsPermutation};
-    ghost use Rattle.cops_cluster.specs.Close.{AllReplay, AreAll, made_in, told};
+    ghost use Rattle.cops_cluster.specs.Close.{AllReplay, AreAll, made_in, reported};
     ghost use Rattle.cops_cluster.specs.HandedBack.{HandsBack, HasRooms};
 
     /// Like `ended`, for shares that are complete and with the lists already allocated.
@@ -136,7 +136,7 @@ impl Cluster {
         requires all { AreAll self.clients self.place.dcs shares.items }
         ensures len { IfOk result (λ u. length u.closed.books.items ≡ vec_len self.nodes) }
         ensures replays { IfOk result (λ u. AllReplay (length self.place.splits + 1) u.closed.books.items) }
-        ensures told { IfOk result (λ u. IsTrue compares → IsPermutation (made_in (length self.place.splits + 1) 0 u.closed.books.items) (told shares.items)) }
+        ensures reported { IfOk result (λ u. IsTrue compares → IsPermutation (made_in (length self.place.splits + 1) 0 u.closed.books.items) (reported shares.items)) }
         ensures shares { IfOk result (λ u. u.shares ≡ shares) }
         ensures back { IfErr result (HandsBack self shares) }
         ensures compared { (ticket : ℕ) → result ≡ Err (CloseFault.NotKept ticket) → IsTrue compares }
@@ -200,8 +200,8 @@ fn difference_where(
 ) -> Result<Option<u64>, AllocError>
     requires places { 0 < places × places ≤ PLACES }
     requires few { length books.now ≤ NODES }
-    ensures some { IfOk result (λ o. IfSome o (IsLeastDifference (made_by places 0 books.now) (told shares.now))) }
-    ensures none { IfOk result (λ o. IfNone o (IsTrue compares → IsPermutation (made_by places 0 books.now) (told shares.now))) }
+    ensures some { IfOk result (λ o. IfSome o (IsLeastDifference (made_by places 0 books.now) (reported shares.now))) }
+    ensures none { IfOk result (λ o. IfNone o (IsTrue compares → IsPermutation (made_by places 0 books.now) (reported shares.now))) }
     ensures compared { IfOk result (λ o. IfSome o (λ _. IsTrue compares)) }
 {
     if compares {

@@ -8,7 +8,7 @@ use crate::fault::OpenFault;
 use crate::share::{Holder, Share};
 use crate::spot::Spot;
 use crate::tail::Tail;
-use cops_book::{Book, Puts};
+use cops_book::{Book, IssuedPuts};
 use cops_context::Context;
 use cops_place::{Place, Setting};
 use cops_record::Recorder;
@@ -153,7 +153,7 @@ impl Cluster {
         dc: u8,
         place: u8,
         from: usize,
-    ) -> Result<Option<Puts>, Memory>
+    ) -> Result<Option<IssuedPuts>, Memory>
         ensures node { IfOk result (λ puts. IsSome puts ↔ IsNode self.now dc place) }
         ensures puts { IfOk result (λ puts. IfSome puts (IsPutsFrom from)) }
         ensures err { OnErr result (IsNode self.now dc place) }

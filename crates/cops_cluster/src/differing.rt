@@ -3,7 +3,7 @@ ghost use Rattle.std.specs.Prelude.{◌≡◌, ◌≤◌, ◌<◌, ◌+◌, ◌+
 ghost use Rattle.std.specs.List.{Contains};
 ghost use Rattle.std.specs.List.Sorted.{IsNonDecreasingBy, IsPermutation};
 ghost use Rattle.cops_types.specs.declared.limits.TheConstants.{NODES, PLACES};
-ghost use Rattle.cops_cluster.specs.Close.{entries_at, made_by, made_in, number_of, told};
+ghost use Rattle.cops_cluster.specs.Close.{entries_at, made_by, made_in, number_of, reported};
 ghost use Rattle.cops_cluster.specs.Shares.{made};
 ghost use Rattle.cops_cluster.specs.declared.noted.Noted.{Noted};
 ghost use Rattle.cops_cluster.specs.Differences.{Compares};
@@ -25,9 +25,9 @@ pub(crate) fn difference(
 ) -> Result<Option<u64>, AllocError>
     requires places { 0 < places × places ≤ PLACES }
     requires few { length books.now ≤ NODES }
-    ensures { IfOk result (Compares (made_by places 0 books.now) (told shares.now)) }
+    ensures { IfOk result (Compares (made_by places 0 books.now) (reported shares.now)) }
 {
-    compared(kept_in(alloc, places, books)?, told_in(alloc, shares)?)
+    compared(kept_in(alloc, places, books)?, reported_in(alloc, shares)?)
 }
 
 /// The least ticket at which the entries of the lists and of the shares differ; `None` where both have the same
@@ -41,11 +41,11 @@ pub fn difference_of_lists(
 ) -> Result<Option<u64>, AllocError>
     requires places { (0 < places) × (places ≤ PLACES) }
     requires few { length lists.now ≤ NODES }
-    ensures { IfOk result (Compares (made_in places 0 lists.now) (told shares.now)) }
+    ensures { IfOk result (Compares (made_in places 0 lists.now) (reported shares.now)) }
 {
     compared(
         listed_in(alloc, usize::from(places), lists)?,
-        told_in(alloc, shares)?,
+        reported_in(alloc, shares)?,
     )
 }
 
@@ -127,8 +127,8 @@ fn add_entries<'a>(
 }
 
 /// The entries of the shares.
-fn told_in<'a>(alloc: Global, shares: &'a [Share]) -> Result<Vec<Noted<'a>>, AllocError>
-    ensures { IfOk result (λ all. map shown all.items ≡ told shares.now) }
+fn reported_in<'a>(alloc: Global, shares: &'a [Share]) -> Result<Vec<Noted<'a>>, AllocError>
+    ensures { IfOk result (λ all. map shown all.items ≡ reported shares.now) }
 {
     let mut all = Vec::new(alloc);
     for share in shares {

@@ -8,8 +8,8 @@ use crate::cluster::Cluster;
 use crate::fault::Stop;
 use crate::share::Share;
 use crate::spot::Spot;
-use crate::stepping::{Reply, Seen, gained, passed};
-use cops_book::{Book, Told};
+use crate::stepping::{CopiedOutcome, NodeReply, gained, passed};
+use cops_book::{Book, Recorded};
 use cops_node::{Node, NodeEvent, Outcome};
 use cops_types::{Dep, Gate, GateHeld, Key, PutRecord, Refusal, Version};
 use std::sync::Wait;
@@ -80,7 +80,7 @@ impl Cluster {
     ghost use Rattle.cops_book.specs.Book.{entry};
     ghost use Rattle.cops_cluster.specs.Shares.{Adds, AddsAtMostOne, AddsEntry, is_of_node};
     ghost use Rattle.cops_cluster.specs.Cluster.{IsNode, IsStop, MayHoldStep, node_of};
-    ghost use Rattle.cops_cluster.specs.Outcomes.{IsAskOutcome, IsDeliverOutcome, IsMarkOutcome, IsNodeAnswer, IsSettleOutcome, IsWant, StopsWith};
+    ghost use Rattle.cops_cluster.specs.Outcomes.{IsAskOutcome, IsDeliverOutcome, IsMarkOutcome, IsNodeAnswer, IsSettleOutcome, IsOutOfMemory, StopsWith};
     ghost use Rattle.cops_cluster.specs.Receiving.{Allows, Forbids, IsAllowedMark, IsAskedOf, IsMarkedAs, IsUnaskedMark, outcome_of};
     ghost use Rattle.cops_cluster.specs.declared.fault.Stop.TheVariants.{Refused};
 
@@ -96,10 +96,10 @@ impl Cluster {
         dc: u8,
         put: PutRecord,
     ) -> Result<Outcome, GateHeld>
-        ensures who { share.new.holder ≡ share.old.holder }
-        ensures told { IfOk result (λ out. Adds share.old.entries.items share.new.entries.items (node_of self.now dc put.key) (Deliver put) out) }
+        ensures owner { share.new.holder ≡ share.old.holder }
+        ensures reported { IfOk result (λ out. Adds share.old.entries.items share.new.entries.items (node_of self.now dc put.key) (Deliver put) out) }
         ensures most { AddsAtMostOne share.old.entries.items share.new.entries.items (node_of self.now dc put.key) (Deliver put) }
-        ensures answer { dc < self.now.place.dcs → IfOk result (λ out. IsNodeAnswer (Deliver put) out ⊎ IsWant out) }
+        ensures answer { dc < self.now.place.dcs → IfOk result (λ out. IsNodeAnswer (Deliver put) out ⊎ IsOutOfMemory out) }
         ensures outcome { dc < self.now.place.dcs → IfOk result IsDeliverOutcome }
         ensures unknown { self.now.place.dcs ≤ dc → result ≡ Ok (RefusedWith UnknownDc) }
         ensures node { OnErr result (IsNode self.now dc (primary self.now.place.splits put.key)) }
@@ -125,8 +125,8 @@ impl Cluster {
         key: &Key,
         version: Version,
     ) -> Result<Asked, GateHeld>
-        ensures who { share.new.holder ≡ share.old.holder }
-        ensures told { IfOk result (λ asked. Adds share.old.entries.items share.new.entries.items (node_of self.now dc key.now) (Ask key.now version) (outcome_of asked)) }
+        ensures owner { share.new.holder ≡ share.old.holder }
+        ensures reported { IfOk result (λ asked. Adds share.old.entries.items share.new.entries.items (node_of self.now dc key.now) (Ask key.now version) (outcome_of asked)) }
         ensures most { AddsAtMostOne share.old.entries.items share.new.entries.items (node_of self.now dc key.now) (Ask key.now version) }
         ensures names { IfOk result (IsAskedOf dc key.now version) }
         ensures outcome { dc < self.now.place.dcs → IfOk result (λ asked. IsAskOutcome (outcome_of asked)) }
@@ -173,8 +173,8 @@ impl Cluster {
         dep: u16,
         yes: &Yes,
     ) -> Result<Outcome, GateHeld>
-        ensures who { share.new.holder ≡ share.old.holder }
-        ensures told { IsNode self.now dc (place_of version) → IfOk result (λ out. Adds share.old.entries.items share.new.entries.items (node_number dc (place_of version)) (Mark version dep) out) }
+        ensures owner { share.new.holder ≡ share.old.holder }
+        ensures reported { IsNode self.now dc (place_of version) → IfOk result (λ out. Adds share.old.entries.items share.new.entries.items (node_number dc (place_of version)) (Mark version dep) out) }
         ensures most { AddsAtMostOne share.old.entries.items share.new.entries.items (node_number dc (place_of version)) (Mark version dep) }
         ensures marked { IsNode self.now dc (place_of version) → IfOk result (IsMarkedAs yes.now dc version dep) }
         ensures outcome { IsNode self.now dc (place_of version) → IfOk result IsMarkOutcome }
@@ -205,10 +205,10 @@ impl Cluster {
         dc: u8,
         version: Version,
     ) -> Result<Outcome, GateHeld>
-        ensures who { share.new.holder ≡ share.old.holder }
-        ensures told { IsNode self.now dc (place_of version) → IfOk result (λ out. Adds share.old.entries.items share.new.entries.items (node_number dc (place_of version)) (Settle version) out) }
+        ensures owner { share.new.holder ≡ share.old.holder }
+        ensures reported { IsNode self.now dc (place_of version) → IfOk result (λ out. Adds share.old.entries.items share.new.entries.items (node_number dc (place_of version)) (Settle version) out) }
         ensures most { AddsAtMostOne share.old.entries.items share.new.entries.items (node_number dc (place_of version)) (Settle version) }
-        ensures answer { IsNode self.now dc (place_of version) → IfOk result (λ out. IsNodeAnswer (Settle version) out ⊎ IsWant out) }
+        ensures answer { IsNode self.now dc (place_of version) → IfOk result (λ out. IsNodeAnswer (Settle version) out ⊎ IsOutOfMemory out) }
         ensures outcome { IsNode self.now dc (place_of version) → IfOk result IsSettleOutcome }
         ensures no_node { (IsNode self.now dc (place_of version) → ⊥) → share.new.entries.items ≡ share.old.entries.items }
         ensures unknown { self.now.place.dcs ≤ dc → result ≡ Ok (RefusedWith UnknownDc) }
@@ -245,10 +245,10 @@ impl Cluster {
         event: NodeEvent,
     ) -> Result<Outcome, GateHeld>
         requires { IsNode self.now spot.dc spot.place }
-        ensures who { share.new.holder ≡ share.old.holder }
-        ensures told { IfOk result (λ out. Adds share.old.entries.items share.new.entries.items (node_number spot.dc spot.place) event out) }
+        ensures owner { share.new.holder ≡ share.old.holder }
+        ensures reported { IfOk result (λ out. Adds share.old.entries.items share.new.entries.items (node_number spot.dc spot.place) event out) }
         ensures most { AddsAtMostOne share.old.entries.items share.new.entries.items (node_number spot.dc spot.place) event }
-        ensures outcome { IfOk result (λ out. IsNodeAnswer event out ⊎ IsWant out) }
+        ensures outcome { IfOk result (λ out. IsNodeAnswer event out ⊎ IsOutOfMemory out) }
         ensures held { OnErr result (MayHoldStep (G.may_hold gate.now) (node_number spot.dc spot.place) RECEIVER) }
     {
         let answered = self.step(rt, share, gate, RECEIVER, spot, event);
@@ -265,10 +265,10 @@ impl Cluster {
         version: Version,
         dep: u16,
         yes: &Yes,
-    ) -> Result<Seen, Stop>
+    ) -> Result<CopiedOutcome, Stop>
         requires { IsNode self.now spot.dc spot.place }
-        ensures who { share.new.holder ≡ share.old.holder }
-        ensures told { IfOk result (λ t. AddsEntry share.old.entries.items share.new.entries.items (node_number spot.dc spot.place) (Mark version dep) t.outcome) }
+        ensures owner { share.new.holder ≡ share.old.holder }
+        ensures reported { IfOk result (λ t. AddsEntry share.old.entries.items share.new.entries.items (node_number spot.dc spot.place) (Mark version dep) t.outcome) }
         ensures answers { IfOk result (λ t. (t.seen ≡ t.outcome) × (is_of_node t.outcome ≡ true)) }
         ensures allowed { IfOk result (λ t. IsAllowedMark yes.now spot.dc version dep t.outcome) }
         ensures stops { IfErr result (StopsWith (IsUnaskedMark yes.now spot.dc version dep)) }
@@ -279,9 +279,9 @@ impl Cluster {
             return Err(Stop::Refused(Refusal::Memory));
         }
         let mut book = self.lock_of(spot).lock(rt);
-        let told = self.marked(rt, gate, spot, &mut book, version, dep, yes)?;
+        let reported = self.marked(rt, gate, spot, &mut book, version, dep, yes)?;
         drop(book);
-        Ok(gained(share, spot.number(), told))
+        Ok(gained(share, spot.number(), reported))
     }
 
     /// A mark at a node whose lock is held. Refused with `NoYes` exactly where the answer is not for the dependency
@@ -295,13 +295,13 @@ impl Cluster {
         version: Version,
         dep: u16,
         yes: &Yes,
-    ) -> Result<Told, Stop>
+    ) -> Result<Recorded, Stop>
         ensures allowed { OnOk result (Allows yes.now spot.dc (dep_at (waiting book.old.node.held version) dep)) }
         ensures no_yes { IsErrOf result (Refused NoYes) ↔ Forbids yes.now spot.dc (dep_at (waiting book.old.node.held version) dep) }
         ensures stops { IfErr result (StopsWith (IsUnaskedMark yes.now spot.dc version dep)) }
         ensures stepped { IfOk result (λ t. node_step book.old.node (Mark version dep) ≡ (t.outcome, book.new.node)) }
         ensures entered { IfOk result (λ t. book.new.entries ≡ book.old.entries ++ t.entry ∷ []) }
-        ensures told { IfOk result (λ t. (t.seen ≡ t.outcome) × ((ticket : ℕ) × (t.entry ≡ entry ticket (Mark version dep) t.outcome))) }
+        ensures reported { IfOk result (λ t. (t.seen ≡ t.outcome) × ((ticket : ℕ) × (t.entry ≡ entry ticket (Mark version dep) t.outcome))) }
         ensures answers { IfOk result (λ t. is_of_node t.outcome ≡ true) }
         ensures none { OnErr result (book.new ≡ book.old) }
         ensures stop { IfErr result (IsStop (G.may_hold gate.now) (node_number spot.dc spot.place) RECEIVER) }
@@ -316,7 +316,7 @@ impl Cluster {
 
 /// The answer to a question about this pair, from its outcome.
 fn asked_of(dc: u8, key: Key, version: Version, outcome: Outcome) -> Asked
-    ensures told { outcome_of result ≡ outcome }
+    ensures reported { outcome_of result ≡ outcome }
     ensures names { IsAskedOf dc key version result }
 {
     match outcome {
@@ -326,11 +326,11 @@ fn asked_of(dc: u8, key: Key, version: Version, outcome: Outcome) -> Asked
 }
 
 /// A node's answer together with the node's number.
-fn replied(node: u16, answered: Result<Seen, Stop>) -> Result<Reply, Stop>
+fn replied(node: u16, answered: Result<CopiedOutcome, Stop>) -> Result<NodeReply, Stop>
     ensures { IsReplyOfSeen node answered result }
 {
     match answered {
-        Ok(seen) => Ok(Reply {
+        Ok(seen) => Ok(NodeReply {
             outcome: seen.outcome,
             node,
         }),

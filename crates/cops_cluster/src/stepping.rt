@@ -13,7 +13,7 @@ use crate::fault::Stop;
 use crate::refusal::refusal;
 use crate::share::{Made, Share};
 use crate::spot::Spot;
-use cops_book::{Book, Told};
+use cops_book::{Book, Recorded};
 use cops_node::{NodeEvent, Outcome};
 use cops_record::Slot;
 use cops_types::{
@@ -25,14 +25,14 @@ use std::sync::atomic::Ordering;
 
 /// What a node answered, and a copy of it.
 #[derive(Drop)]
-pub(crate) struct Seen {
+pub(crate) struct CopiedOutcome {
     pub(crate) outcome: Outcome,
     pub(crate) seen: Outcome,
 }
 
 /// What a node answered to a client, and the operation that the client saw, if any.
 #[derive(Drop)]
-pub(crate) struct Answer {
+pub(crate) struct ClientAnswer {
     pub(crate) outcome: Outcome,
     pub(crate) node: u16,
     pub(crate) op: Option<Op>,
@@ -40,7 +40,7 @@ pub(crate) struct Answer {
 
 /// A node's answer with the node's number.
 #[derive(Drop)]
-pub(crate) struct Reply {
+pub(crate) struct NodeReply {
     pub(crate) outcome: Outcome,
     pub(crate) node: u16,
 }
@@ -50,13 +50,13 @@ pub(crate) struct Reply {
 #[derive(Drop)]
 struct WriteCopies {
     deps: Deps,
-    notes: WriteNotes,
+    summaries: WriteSummaries,
 }
 
 /// What is kept of a write until the node answers: the key for the client's context, and the key and content for the
 /// operation that it saw. A write without a content is a deletion.
 #[derive(Drop)]
-struct WriteNotes {
+struct WriteSummaries {
     pair_key: Key,
     key: Key,
     content: Option<Value>,
@@ -64,33 +64,33 @@ struct WriteNotes {
 
 /// The event that a write sends to the node, and what is kept until the node answers.
 #[derive(Drop)]
-struct WriteTold {
+struct WriteReported {
     event: NodeEvent,
-    notes: WriteNotes,
+    summaries: WriteSummaries,
 }
 
 /// What is kept of a get until the node answers: the key for the client's context, and the key for the operation that
 /// it saw.
 #[derive(Drop)]
-struct GetNotes {
+struct GetSummaries {
     pair_key: Key,
     key: Key,
 }
 
 /// The event that a get sends to the node, and what is kept until the node answers.
 #[derive(Drop)]
-struct GetTold {
+struct GetReported {
     event: NodeEvent,
-    notes: GetNotes,
+    summaries: GetSummaries,
 }
 
 fn write_copies(client: &Client, key: &Key, content: Option<&Value>) -> Result<WriteCopies, Memory>
     ensures deps { IfOk result (λ c. c.deps ≡ client.now.context.pairs) }
-    ensures noted { IfOk result (λ c. (c.notes.pair_key ≡ key.now) × (c.notes.key ≡ key.now) × (c.notes.content ≡ option_copied content.entry)) }
+    ensures noted { IfOk result (λ c. (c.summaries.pair_key ≡ key.now) × (c.summaries.key ≡ key.now) × (c.summaries.content ≡ option_copied content.entry)) }
 {
     let deps = client.context.deps()?;
-    match write_notes(key, content) {
-        Ok(notes) => Ok(WriteCopies { deps, notes }),
+    match write_summaries(key, content) {
+        Ok(summaries) => Ok(WriteCopies { deps, summaries }),
         Err(fault) => {
             drop(deps);
             Err(Memory::from(fault))
@@ -98,21 +98,25 @@ fn write_copies(client: &Client, key: &Key, content: Option<&Value>) -> Result<W
     }
 }
 
-fn write_notes(key: &Key, content: Option<&Value>) -> Result<WriteNotes, AllocError>
-    ensures { IfOk result (λ notes. (notes.pair_key ≡ key.now) × (notes.key ≡ key.now) × (notes.content ≡ option_copied content.entry)) }
+fn write_summaries(key: &Key, content: Option<&Value>) -> Result<WriteSummaries, AllocError>
+    ensures { IfOk result (λ summaries. (summaries.pair_key ≡ key.now) × (summaries.key ≡ key.now) × (summaries.content ≡ option_copied content.entry)) }
 {
-    Ok(WriteNotes {
+    Ok(WriteSummaries {
         pair_key: key.clone()?,
         key: key.clone()?,
         content: content_copy(content)?,
     })
 }
 
-fn write_told(client: &Client, key: Key, content: Option<Value>) -> Result<WriteTold, Memory>
+fn write_reported(
+    client: &Client,
+    key: Key,
+    content: Option<Value>,
+) -> Result<WriteReported, Memory>
     ensures event { IfOk result (λ t. t.event ≡ write_event client.now.number key content client.now.context.pairs) }
-    ensures noted { IfOk result (λ t. (t.notes.pair_key ≡ key) × (t.notes.key ≡ key) × (t.notes.content ≡ content)) }
+    ensures noted { IfOk result (λ t. (t.summaries.pair_key ≡ key) × (t.summaries.key ≡ key) × (t.summaries.content ≡ content)) }
 {
-    let WriteCopies { deps, notes } = match write_copies(client, &key, content.as_ref()) {
+    let WriteCopies { deps, summaries } = match write_copies(client, &key, content.as_ref()) {
         Ok(copies) => copies,
         Err(fault) => {
             drop(key);
@@ -121,7 +125,7 @@ fn write_told(client: &Client, key: Key, content: Option<Value>) -> Result<Write
         }
     };
     let event = event_of(client.number, key, content, deps);
-    Ok(WriteTold { event, notes })
+    Ok(WriteReported { event, summaries })
 }
 
 /// The event for a client's write: a put of the content, or a deletion where there is none.
@@ -153,23 +157,23 @@ fn written(key: Key, content: Option<Value>, version: Version) -> Op
     }
 }
 
-fn get_notes(key: &Key) -> Result<GetNotes, AllocError>
-    ensures { IfOk result (λ notes. (notes.pair_key ≡ key.now) × (notes.key ≡ key.now)) }
+fn get_summaries(key: &Key) -> Result<GetSummaries, AllocError>
+    ensures { IfOk result (λ summaries. (summaries.pair_key ≡ key.now) × (summaries.key ≡ key.now)) }
 {
-    Ok(GetNotes {
+    Ok(GetSummaries {
         pair_key: key.clone()?,
         key: key.clone()?,
     })
 }
 
-fn get_told(client: u16, key: Key) -> Result<GetTold, Memory>
+fn get_reported(client: u16, key: Key) -> Result<GetReported, Memory>
     ensures event { IfOk result (λ t. t.event ≡ Get client key) }
-    ensures noted { IfOk result (λ t. (t.notes.pair_key ≡ key) × (t.notes.key ≡ key)) }
+    ensures noted { IfOk result (λ t. (t.summaries.pair_key ≡ key) × (t.summaries.key ≡ key)) }
 {
-    match get_notes(&key) {
-        Ok(notes) => {
+    match get_summaries(&key) {
+        Ok(summaries) => {
             let event = NodeEvent::Get { client, key };
-            Ok(GetTold { event, notes })
+            Ok(GetReported { event, summaries })
         }
         Err(fault) => {
             drop(key);
@@ -193,7 +197,7 @@ impl Cluster {
     ghost use Rattle.cops_book.specs.Book.{entry};
     ghost use Rattle.cops_cluster.specs.Shares.{Adds, AddsAtMostOne, AddsEntry, is_refusal_of_node, is_of_node};
     ghost use Rattle.cops_cluster.specs.Cluster.{IsNode, IsSameClient, IsStop, MayHoldStep, after_get, after_write, get_seen, node_of, write_event, write_seen};
-    ghost use Rattle.cops_cluster.specs.Outcomes.{IsDelOutcome, IsGetOutcome, IsNodeAnswer, IsPutOutcome, IsUnaskedGet, IsUnaskedWrite, IsUnknown, IsWant, IsWriteOutcome, StopsWith};
+    ghost use Rattle.cops_cluster.specs.Outcomes.{IsDelOutcome, IsGetOutcome, IsNodeAnswer, IsPutOutcome, IsUnaskedGet, IsUnaskedWrite, IsUnknown, IsOutOfMemory, IsWriteOutcome, StopsWith};
     ghost use Rattle.cops_cluster.specs.Replies.{IsSpent};
 
     /// Puts a value for a client.
@@ -210,8 +214,8 @@ impl Cluster {
         key: Key,
         value: Value,
     ) -> Result<Outcome, GateHeld>
-        ensures who { IsSameClient client.old client.new }
-        ensures told { IfOk result (λ out. Adds client.old.share.entries.items client.new.share.entries.items (node_of self.now client.old.dc key) (Put client.old.number key value client.old.context.pairs) out) }
+        ensures owner { IsSameClient client.old client.new }
+        ensures reported { IfOk result (λ out. Adds client.old.share.entries.items client.new.share.entries.items (node_of self.now client.old.dc key) (Put client.old.number key value client.old.context.pairs) out) }
         ensures most { AddsAtMostOne client.old.share.entries.items client.new.share.entries.items (node_of self.now client.old.dc key) (Put client.old.number key value client.old.context.pairs) }
         ensures context { IfOk result (λ out. client.new.context.pairs ≡ after_write client.old.context.pairs key out) }
         ensures outcome { IfOk result IsPutOutcome }
@@ -235,8 +239,8 @@ impl Cluster {
         gate: &G,
         key: Key,
     ) -> Result<Outcome, GateHeld>
-        ensures who { IsSameClient client.old client.new }
-        ensures told { IfOk result (λ out. Adds client.old.share.entries.items client.new.share.entries.items (node_of self.now client.old.dc key) (Del client.old.number key client.old.context.pairs) out) }
+        ensures owner { IsSameClient client.old client.new }
+        ensures reported { IfOk result (λ out. Adds client.old.share.entries.items client.new.share.entries.items (node_of self.now client.old.dc key) (Del client.old.number key client.old.context.pairs) out) }
         ensures most { AddsAtMostOne client.old.share.entries.items client.new.share.entries.items (node_of self.now client.old.dc key) (Del client.old.number key client.old.context.pairs) }
         ensures context { IfOk result (λ out. client.new.context.pairs ≡ after_write client.old.context.pairs key out) }
         ensures outcome { IfOk result IsDelOutcome }
@@ -256,8 +260,8 @@ impl Cluster {
         key: Key,
         content: Option<Value>,
     ) -> Result<Outcome, GateHeld>
-        ensures who { IsSameClient client.old client.new }
-        ensures told { IfOk result (λ out. Adds client.old.share.entries.items client.new.share.entries.items (node_of self.now client.old.dc key) (write_event client.old.number key content client.old.context.pairs) out) }
+        ensures owner { IsSameClient client.old client.new }
+        ensures reported { IfOk result (λ out. Adds client.old.share.entries.items client.new.share.entries.items (node_of self.now client.old.dc key) (write_event client.old.number key content client.old.context.pairs) out) }
         ensures most { AddsAtMostOne client.old.share.entries.items client.new.share.entries.items (node_of self.now client.old.dc key) (write_event client.old.number key content client.old.context.pairs) }
         ensures context { IfOk result (λ out. client.new.context.pairs ≡ after_write client.old.context.pairs key out) }
         ensures outcome { IfOk result (IsWriteOutcome content) }
@@ -316,8 +320,8 @@ impl Cluster {
         gate: &G,
         key: Key,
     ) -> Result<Outcome, GateHeld>
-        ensures who { IsSameClient client.old client.new }
-        ensures told { IfOk result (λ out. Adds client.old.share.entries.items client.new.share.entries.items (node_of self.now client.old.dc key) (Get client.old.number key) out) }
+        ensures owner { IsSameClient client.old client.new }
+        ensures reported { IfOk result (λ out. Adds client.old.share.entries.items client.new.share.entries.items (node_of self.now client.old.dc key) (Get client.old.number key) out) }
         ensures most { AddsAtMostOne client.old.share.entries.items client.new.share.entries.items (node_of self.now client.old.dc key) (Get client.old.number key) }
         ensures context { IfOk result (λ out. client.new.context.pairs ≡ after_get client.old.context.pairs key out) }
         ensures full { most_deps self.now.format ≤ length client.old.context.pairs → client.new.share.entries.items ≡ client.old.share.entries.items }
@@ -363,15 +367,15 @@ impl Cluster {
         gate: &G,
         key: Key,
         content: Option<Value>,
-    ) -> Result<Answer, Stop>
+    ) -> Result<ClientAnswer, Stop>
         requires { client.old.dc < self.now.place.dcs }
-        ensures who { IsSameClient client.old client.new }
-        ensures told { IfOk result (λ a. AddsEntry client.old.share.entries.items client.new.share.entries.items (node_of self.now client.old.dc key) (write_event client.old.number key content client.old.context.pairs) a.outcome) }
+        ensures owner { IsSameClient client.old client.new }
+        ensures reported { IfOk result (λ a. AddsEntry client.old.share.entries.items client.new.share.entries.items (node_of self.now client.old.dc key) (write_event client.old.number key content client.old.context.pairs) a.outcome) }
         ensures answers { IfOk result (λ a. (is_of_node a.outcome ≡ true) × (a.node ≡ node_of self.now client.old.dc key)) }
         ensures context { IfOk result (λ a. client.new.context.pairs ≡ after_write client.old.context.pairs key a.outcome) }
         ensures seen { IfOk result (λ a. option_map operation_of a.op ≡ write_seen key content a.outcome) }
         ensures outcome { IfOk result (λ a. IsWriteOutcome content a.outcome) }
-        ensures stops { IfErr result (StopsWith IsWant) }
+        ensures stops { IfErr result (StopsWith IsOutOfMemory) }
         ensures none { OnErr result (client.new.share.entries.items ≡ client.old.share.entries.items) }
         ensures kept { OnErr result (client.new.context.pairs ≡ client.old.context.pairs) }
         ensures stop { IfErr result (IsStop (G.may_hold gate.now) (node_of self.now client.old.dc key) client.old.number) }
@@ -380,16 +384,16 @@ impl Cluster {
             unreachable!()
         };
         let number = client.number;
-        let WriteTold { event, notes } = write_told(client, key, content)?;
+        let WriteReported { event, summaries } = write_reported(client, key, content)?;
         match self.step(rt, &mut client.share, gate, number, spot, event) {
-            Ok(Seen { outcome, seen }) => {
-                let op = client.wrote(notes, &seen);
+            Ok(CopiedOutcome { outcome, seen }) => {
+                let op = client.wrote(summaries, &seen);
                 drop(seen);
                 let node = spot.number();
-                Ok(Answer { outcome, node, op })
+                Ok(ClientAnswer { outcome, node, op })
             }
             Err(stop) => {
-                drop(notes);
+                drop(summaries);
                 Err(stop)
             }
         }
@@ -402,11 +406,11 @@ impl Cluster {
         client: &mut Client,
         gate: &G,
         key: Key,
-    ) -> Result<Answer, Stop>
+    ) -> Result<ClientAnswer, Stop>
         requires dc { client.old.dc < self.now.place.dcs }
         requires format { client.old.context.format ≡ self.now.format }
-        ensures who { IsSameClient client.old client.new }
-        ensures told { IfOk result (λ a. AddsEntry client.old.share.entries.items client.new.share.entries.items (node_of self.now client.old.dc key) (Get client.old.number key) a.outcome) }
+        ensures owner { IsSameClient client.old client.new }
+        ensures reported { IfOk result (λ a. AddsEntry client.old.share.entries.items client.new.share.entries.items (node_of self.now client.old.dc key) (Get client.old.number key) a.outcome) }
         ensures answers { IfOk result (λ a. (is_of_node a.outcome ≡ true) × (a.node ≡ node_of self.now client.old.dc key)) }
         ensures context { IfOk result (λ a. client.new.context.pairs ≡ after_get client.old.context.pairs key a.outcome) }
         ensures seen { IfOk result (λ a. option_map operation_of a.op ≡ get_seen key a.outcome) }
@@ -425,15 +429,15 @@ impl Cluster {
             }
         };
         let number = client.number;
-        let GetTold { event, notes } = get_told(number, key)?;
+        let GetReported { event, summaries } = get_reported(number, key)?;
         match self.step(rt, &mut client.share, gate, number, spot, event) {
-            Ok(Seen { outcome, seen }) => {
-                let op = client.saw(notes.pair_key, notes.key, seen);
+            Ok(CopiedOutcome { outcome, seen }) => {
+                let op = client.saw(summaries.pair_key, summaries.key, seen);
                 let node = spot.number();
-                Ok(Answer { outcome, node, op })
+                Ok(ClientAnswer { outcome, node, op })
             }
             Err(stop) => {
-                drop(notes);
+                drop(summaries);
                 Err(stop)
             }
         }
@@ -468,17 +472,17 @@ impl Cluster {
         &self,
         rt: &R,
         slot: Slot,
-        answered: Result<Answer, Stop>,
-    ) -> Result<Reply, Stop>
+        answered: Result<ClientAnswer, Stop>,
+    ) -> Result<NodeReply, Stop>
         ensures { IsSpent answered result }
     {
         match answered {
-            Ok(Answer { outcome, node, op }) => {
+            Ok(ClientAnswer { outcome, node, op }) => {
                 match op {
                     Some(op) => self.recorder.fill(rt, slot, op),
                     None => self.recorder.cancel(rt, slot),
                 }
-                Ok(Reply { outcome, node })
+                Ok(NodeReply { outcome, node })
             }
             Err(stop) => {
                 self.recorder.cancel(rt, slot);
@@ -496,13 +500,13 @@ impl Cluster {
         client: u16,
         spot: Spot,
         event: NodeEvent,
-    ) -> Result<Seen, Stop>
+    ) -> Result<CopiedOutcome, Stop>
         requires { IsNode self.now spot.dc spot.place }
-        ensures who { share.new.holder ≡ share.old.holder }
-        ensures told { IfOk result (λ t. AddsEntry share.old.entries.items share.new.entries.items (node_number spot.dc spot.place) event t.outcome) }
+        ensures owner { share.new.holder ≡ share.old.holder }
+        ensures reported { IfOk result (λ t. AddsEntry share.old.entries.items share.new.entries.items (node_number spot.dc spot.place) event t.outcome) }
         ensures answers { IfOk result (λ t. (t.seen ≡ t.outcome) × (is_of_node t.outcome ≡ true)) }
         ensures outcome { IfOk result (λ t. IsNodeAnswer event t.outcome) }
-        ensures stops { IfErr result (StopsWith IsWant) }
+        ensures stops { IfErr result (StopsWith IsOutOfMemory) }
         ensures none { OnErr result (share.new.entries.items ≡ share.old.entries.items) }
         ensures stop { IfErr result (IsStop (G.may_hold gate.now) (node_number spot.dc spot.place) client) }
     {
@@ -511,9 +515,9 @@ impl Cluster {
             return Err(Stop::Refused(Refusal::Memory));
         }
         let mut book = self.lock_of(spot).lock(rt);
-        let told = self.asked(rt, gate, client, spot, &mut book, event)?;
+        let reported = self.asked(rt, gate, client, spot, &mut book, event)?;
         drop(book);
-        Ok(gained(share, spot.number(), told))
+        Ok(gained(share, spot.number(), reported))
     }
 
     /// Runs one step of a node whose lock is held, and adds the entry to its log.
@@ -525,13 +529,13 @@ impl Cluster {
         spot: Spot,
         book: &mut Book,
         event: NodeEvent,
-    ) -> Result<Told, Stop>
+    ) -> Result<Recorded, Stop>
         ensures stepped { IfOk result (λ t. node_step book.old.node event ≡ (t.outcome, book.new.node)) }
         ensures entered { IfOk result (λ t. book.new.entries ≡ book.old.entries ++ t.entry ∷ []) }
-        ensures told { IfOk result (λ t. (t.seen ≡ t.outcome) × ((ticket : ℕ) × (t.entry ≡ entry ticket event t.outcome))) }
+        ensures reported { IfOk result (λ t. (t.seen ≡ t.outcome) × ((ticket : ℕ) × (t.entry ≡ entry ticket event t.outcome))) }
         ensures answers { IfOk result (λ t. is_of_node t.outcome ≡ true) }
         ensures none { OnErr result (book.new ≡ book.old) }
-        ensures stops { IfErr result (StopsWith IsWant) }
+        ensures stops { IfErr result (StopsWith IsOutOfMemory) }
         ensures stop { IfErr result (IsStop (G.may_hold gate.now) (node_number spot.dc spot.place) client) }
     {
         let node = spot.number();
@@ -540,8 +544,8 @@ impl Cluster {
             return Err(Stop::GateHeld);
         }
         let ticket = self.tickets.fetch_add(1, Ordering::SeqCst);
-        match book.step_told(ticket, event) {
-            Ok(told) => Ok(told),
+        match book.step_recorded(ticket, event) {
+            Ok(reported) => Ok(reported),
             Err(_) => Err(Stop::Refused(Refusal::Memory)),
         }
     }
@@ -556,21 +560,21 @@ impl Client {
 
     /// Handles the answer to the client's write. Returns the operation that it saw; after a version was given, the
     /// context has the write's pair alone.
-    fn wrote(&mut self, notes: WriteNotes, answer: &Outcome) -> Option<Op>
-        requires { notes.pair_key ≡ notes.key }
-        ensures context { self.new.context.pairs ≡ after_write self.old.context.pairs notes.key answer.now }
-        ensures seen { option_map operation_of result ≡ write_seen notes.key notes.content answer.now }
+    fn wrote(&mut self, summaries: WriteSummaries, answer: &Outcome) -> Option<Op>
+        requires { summaries.pair_key ≡ summaries.key }
+        ensures context { self.new.context.pairs ≡ after_write self.old.context.pairs summaries.key answer.now }
+        ensures seen { option_map operation_of result ≡ write_seen summaries.key summaries.content answer.now }
         ensures same { (self.new.number ≡ self.old.number) × (self.new.dc ≡ self.old.dc) × (self.new.share ≡ self.old.share) × (self.new.context.format ≡ self.old.context.format) }
     {
         let Some(version) = answer.version_given() else {
-            drop(notes);
+            drop(summaries);
             return None;
         };
-        let WriteNotes {
+        let WriteSummaries {
             pair_key,
             key,
             content,
-        } = notes;
+        } = summaries;
         self.context.replace(Dep {
             key: pair_key,
             version,
@@ -618,19 +622,19 @@ impl Client {
 }
 
 /// Adds to the share the entry of a step of the node with this number.
-pub(crate) fn gained(share: &mut Share, node: u16, told: Told) -> Seen
+pub(crate) fn gained(share: &mut Share, node: u16, reported: Recorded) -> CopiedOutcome
     requires { vec_len share.old.entries < vec_capacity share.old.entries }
-    ensures who { share.new.holder ≡ share.old.holder }
-    ensures entries { share.new.entries.items ≡ share.old.entries.items ++ made node told.entry ∷ [] }
-    ensures answer { (result.outcome ≡ told.outcome) × (result.seen ≡ told.seen) }
+    ensures owner { share.new.holder ≡ share.old.holder }
+    ensures entries { share.new.entries.items ≡ share.old.entries.items ++ made node reported.entry ∷ [] }
+    ensures answer { (result.outcome ≡ reported.outcome) × (result.seen ≡ reported.seen) }
 {
-    let Told {
+    let Recorded {
         outcome,
         seen,
         entry,
-    } = told;
+    } = reported;
     share.entries.push_reserved(Made { entry, node });
-    Seen { outcome, seen }
+    CopiedOutcome { outcome, seen }
 }
 
 /// The outcome that the caller gets, after the gate has let a node's answer pass.
@@ -638,13 +642,13 @@ pub(crate) fn passed<R: Wait, G: Gate>(
     rt: &R,
     gate: &G,
     client: u16,
-    reply: Result<Reply, Stop>,
+    reply: Result<NodeReply, Stop>,
 ) -> Result<Outcome, GateHeld>
-    ensures told { IfOk result (IsReplyOf reply) }
+    ensures reported { IfOk result (IsReplyOf reply) }
     ensures held { OnErr result (WasHeld (G.may_hold gate.now) client reply) }
 {
     match reply {
-        Ok(Reply { outcome, node }) => {
+        Ok(NodeReply { outcome, node }) => {
             if gate.pass(rt, Point::Answered { node, client }).is_err() {
                 drop(outcome);
                 return Err(GateHeld);

@@ -345,7 +345,7 @@ fn surely_recorded(recorder: Recorder) -> Result<usize, IntoTraceFault> {
 
 /// Holds whichever single allocation fails: no record is lost, and none is incomplete.
 #[test]
-fn a_refused_growth_changes_nothing(rt: HostRuntime) -> Result<(), Fail> {
+fn a_refused_allocation_changes_nothing(rt: HostRuntime) -> Result<(), Fail> {
     let recorder = match Recorder::new(rt.alloc(), 1) {
         Ok(recorder) => recorder,
         Err(_) => Recorder::new(rt.alloc(), 1)?,

@@ -81,13 +81,13 @@ fn is_wanted(format: Format, i: u32, outcome: &Outcome) -> bool {
 }
 
 /// Whether the outcome is as wanted; `None` where an allocation failed. Drops the outcome.
-fn told(format: Format, i: u32, outcome: Outcome) -> Option<bool> {
-    let told = match &outcome {
+fn reported(format: Format, i: u32, outcome: Outcome) -> Option<bool> {
+    let reported = match &outcome {
         Outcome::Refused(Refusal::Memory) => None,
         outcome => Some(is_wanted(format, i, outcome)),
     };
     drop(outcome);
-    told
+    reported
 }
 
 /// A world of two data centres with a client each; `None` where an allocation fails.
@@ -159,12 +159,12 @@ fn surely_shown(alloc: Global, world: &World) -> Option<View> {
 fn happens(alloc: Global, world: &mut World, i: u32) -> Result<bool, TypeFault> {
     let (format, before) = (world.setting().format(), surely_shown(alloc, world));
     let event = surely(alloc, format, i)?;
-    if let Some(is_wanted) = told(format, i, world.apply(event)) {
+    if let Some(is_wanted) = reported(format, i, world.apply(event)) {
         return Ok(is_wanted);
     }
     let is_same = before.is_some() && surely_shown(alloc, world) == before;
     let event = surely(alloc, format, i)?;
-    Ok(is_same && told(format, i, world.apply(event)) == Some(true))
+    Ok(is_same && reported(format, i, world.apply(event)) == Some(true))
 }
 
 /// Whether all nine events are answered as wanted.
@@ -179,7 +179,7 @@ fn all_happen(alloc: Global, world: &mut World) -> Result<bool, TypeFault> {
 
 /// Holds whichever single allocation fails, of the world, its nodes, stores, held puts, contexts and history.
 #[test]
-fn a_refused_growth_changes_nothing(rt: HostRuntime) -> Result<(), Fail> {
+fn a_refused_allocation_changes_nothing(rt: HostRuntime) -> Result<(), Fail> {
     for format in [Format::One, Format::Two] {
         let mut world = surely_open(rt.alloc(), format).ok_or("no world")?;
         let all_happen = all_happen(rt.alloc(), &mut world);

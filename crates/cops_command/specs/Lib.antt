@@ -1,3 +1,3 @@
 pub mod Scenario
 pub mod Status
-pub mod Told
+pub mod Reported

@@ -4,5 +4,5 @@ use Rattle.cops_scenario.specs.declared.fault.Field.{Field}
 use Rattle.cops_scenario.specs.File.{IsNoText, IsWrongText}
 
 -- they are not JSON, or a field is wrong
-abbrev pub TellsNone : List ℕ → Type 0
-TellsNone bytes = IsNoText bytes ⊎ ((field : Field) × IsWrongText bytes field)
+abbrev pub ReportsNone : List ℕ → Type 0
+ReportsNone bytes = IsNoText bytes ⊎ ((field : Field) × IsWrongText bytes field)

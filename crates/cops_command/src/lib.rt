@@ -9,6 +9,6 @@ mod scenario;
 mod status;
 
 pub use input::{PIECE, read_all};
-pub use reporting::reported;
+pub use reporting::report_of;
 pub use scenario::read_scenario;
 pub use status::{Status, failed, print};

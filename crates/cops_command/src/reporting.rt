@@ -1,7 +1,7 @@
 //! The report on what clients saw.
 ghost use Rattle.std.specs.Prelude.{IfOk};
 ghost use Rattle.cops_audit.specs.declared.verdict.Verdict.{Verdict as AVerdict};
-ghost use Rattle.cops_command.specs.Told.{IsReportOf};
+ghost use Rattle.cops_command.specs.Reported.{IsReportOf};
 
 use cops_audit::judge;
 use cops_report::report;
@@ -9,7 +9,7 @@ use cops_types::{History, Memory};
 use std::alloc::Global;
 
 /// The report of the verdict on what clients saw. The only error is `Memory`, where memory runs out.
-pub fn reported(alloc: Global, history: &History) -> Result<Vec<u8>, Memory>
+pub fn report_of(alloc: Global, history: &History) -> Result<Vec<u8>, Memory>
     ensures { IfOk result (λ text. (verdict : AVerdict) × IsReportOf history.now.sessions verdict text.items) }
 {
     let verdict = judge(alloc, history)?;

@@ -3,7 +3,7 @@ ghost use Rattle.std.specs.Prelude.{◌≡◌, ◌⊎◌, Ok, Err, IsOk, IfOk, I
 ghost use Rattle.cops_types.specs.Failures.{Failed as DidFail};
 ghost use Rattle.cops_types.specs.Counted.{failures, inner};
 ghost use Rattle.cops_scenario.specs.File.{IsTextOf};
-ghost use Rattle.cops_command.specs.Scenario.{TellsNone};
+ghost use Rattle.cops_command.specs.Scenario.{ReportsNone};
 ghost use Rattle.cops_command.specs.Status.{number};
 ghost use Rattle.cops_command.specs.declared.status.Status.TheVariants.{Failed, Faulty};
 
@@ -23,9 +23,9 @@ pub fn read_scenario<R: Read, W: Write, E: Write>(
     out: &mut Counted<W>,
     errors: &mut Counted<E>,
 ) -> Result<Result<Scenario, u8>, Memory>
-    ensures told { IfOk result (λ read. IfOk read (λ scenario. IfSome (R.remaining (inner reader.old)) (λ bytes. IsTextOf bytes scenario))) }
+    ensures reported { IfOk result (λ read. IfOk read (λ scenario. IfSome (R.remaining (inner reader.old)) (λ bytes. IsTextOf bytes scenario))) }
     ensures unwritten { IfOk result (λ read. IsOk read → out.new ≡ out.old) }
-    ensures none { IfOk result (λ read. IfErr read (λ status. (status ≡ number Failed) ⊎ ((status ≡ number Faulty) × IfSome (R.remaining (inner reader.old)) TellsNone))) }
+    ensures none { IfOk result (λ read. IfErr read (λ status. (status ≡ number Failed) ⊎ ((status ≡ number Faulty) × IfSome (R.remaining (inner reader.old)) ReportsNone))) }
     ensures failed { result ≡ Ok (Err (number Failed)) → DidFail (failures reader.old) (failures reader.new) ⊎ DidFail (failures out.old) (failures out.new) }
     ensures heard { (result ≡ Ok (Err (number Failed))) ⊎ ((failures reader.new ≡ failures reader.old) × (failures out.new ≡ failures out.old)) }
 {

@@ -41,7 +41,7 @@ pub fn failed<E: Write>(errors: &mut Counted<E>, text: &[u8]) -> u8
     ensures status { result ≡ number Failed }
 
     // A prefix of the text was written, and all of it unless a write failed.
-    ensures told { (n : ℕ) × Appends (E.contents (inner errors.old)) (E.contents (inner errors.new)) (take n text.now)
+    ensures reported { (n : ℕ) × Appends (E.contents (inner errors.old)) (E.contents (inner errors.new)) (take n text.now)
         × ((length text.now ≤ n) ⊎ DidFail (failures errors.old) (failures errors.new)) }
 {
     let _ = write_text(errors, text);

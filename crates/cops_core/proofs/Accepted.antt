@@ -9,7 +9,7 @@ use Rattle.cops_types.specs.Faults.{HasVersion, IsNotBelow}
 use Rattle.cops_types.specs.Verdicts.{AllHaveSources, AllAbove, NoneStale}
 use Rattle.cops_types.specs.VersionOrder.{NoneDoubled}
 use Rattle.cops_context.specs.Context.{with_pair}
-use Rattle.cops_core.specs.Dependencies.{Bears, IsConsistent, IsClosed}
+use Rattle.cops_core.specs.Dependencies.{HasPut, IsConsistent, IsClosed}
 use Rattle.cops_core.specs.Machine.{State, context_of, session}
 use Rattle.cops_core.specs.Invariants.{Covers}
 use Rattle.cops_core.proofs.Lists.{at_version, contains_one, contains_head, gain_new}
@@ -37,7 +37,7 @@ pub record Kept (home : ℕ → ℕ) (s : State) : Type 0 where
   pub consistent : IsConsistent s.issued
   pub known : (d : ℕ) (p : PutRecord) → Contains (s.settled d) p → Contains s.issued p
   pub closed : (d : ℕ) → IsClosed (s.settled d)
-  pub held : (c : ℕ) (p : Dep) → Contains (context_of s c) p → Bears (s.settled (home c)) p
+  pub held : (c : ℕ) (p : Dep) → Contains (context_of s c) p → HasPut (s.settled (home c)) p
   pub fair : (c : ℕ) → AllFair s.issued [] (session s.sessions c)
   pub contexts : (c : ℕ) → context_of s c ≡ context_before [] (session s.sessions c) (length (session s.sessions c))
   pub named : (p : PutRecord) → Contains s.issued p → (n : OpName) × (op_at s.sessions n ≡ Some (write p.key p.value p.version))
@@ -45,8 +45,8 @@ pub record Kept (home : ℕ → ℕ) (s : State) : Type 0 where
 
 pub wrote_of : (puts : List PutRecord) (k : List ℕ) (x : Option (List ℕ)) (v : ℕ) (put : PutRecord) → IsOf puts k x v put → write put.key put.value put.version ≡ write k x v
 wrote_of puts k x v put i =
-    let key : put.key ≡ k = ap (λ (p : Dep). p.key) i.bears in
-    let version : put.version ≡ v = ap (λ (p : Dep). p.version) i.bears in
+    let key : put.key ≡ k = ap (λ (p : Dep). p.key) i.pair_is in
+    let version : put.version ≡ v = ap (λ (p : Dep). p.version) i.pair_is in
     let value = i.value in
     cc
 
@@ -121,7 +121,7 @@ module _ (puts : List PutRecord) (h : Sessions) (c : IsConsistent puts) (fair : 
           let dep : Contains f.put.deps later.from = subst (λ d. Contains d later.from) (sym f.deps) later.among in
           let above = c.above f.put later.from f.is.among dep in
           let reached : w ≤ later.from.version = reaches_below puts c later.from (at_version l w) later.reaches in
-          let version : f.put.version ≡ v = ap (λ (p : Dep). p.version) f.is.bears in
+          let version : f.put.version ≡ v = ap (λ (p : Dep). p.version) f.is.pair_is in
           omega arith
 
       cases : (o : Operation) → slice_get (session h client) i ≡ Some o → IsBelow o v

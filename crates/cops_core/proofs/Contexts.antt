@@ -6,7 +6,7 @@ use Rattle.cops_types.specs.declared.dep.Dep.{Dep}
 use Rattle.cops_types.specs.declared.put_record.PutRecord.{PutRecord}
 use Rattle.cops_context.specs.Context.{with_pair}
 use Rattle.cops_node.specs.Node.{put_pair}
-use Rattle.cops_core.specs.Dependencies.{Bears, Needs, Reaches, IsConsistent}
+use Rattle.cops_core.specs.Dependencies.{HasPut, Needs, Reaches, IsConsistent}
 use Rattle.cops_core.specs.Invariants.{Covers}
 use Rattle.cops_core.proofs.Lists.{at_version, contains_one, contains_head, gain_old, gain_cases}
 use Rattle.cops_core.proofs.Reaching.{reaches_itself, reaches_dep, reaches_old}
@@ -26,7 +26,7 @@ context_before context (op ∷ ops) (suc i) = context_before (context_after cont
 -- one of the puts has this key, value and version
 pub record IsOf (puts : List PutRecord) (k : List ℕ) (x : Option (List ℕ)) (v : ℕ) (put : PutRecord) : Type 0 where
   pub among : Contains puts put
-  pub bears : put_pair put ≡ at_version k v
+  pub pair_is : put_pair put ≡ at_version k v
   pub value : put.value ≡ x
 
 pub record WasPut (puts : List PutRecord) (context : List Dep) (k : List ℕ) (x : Option (List ℕ)) (v : ℕ) : Type 0 where
@@ -77,7 +77,7 @@ after_at context (o ∷ ops) (suc i) op e = after_at (context_after context o) o
 pub covers_after : (puts : List PutRecord) (context : List Dep) (op : Operation) (p : Dep) → IsFair puts context op → Covers puts context p → Covers puts (context_after context op) p
 covers_after puts context (write k x v) p f c =
     let needed : Contains f.put.deps c.from = subst (λ d. Contains d c.from) (sym f.deps) c.among in
-    let needs : Needs puts (at_version k v) c.from = record { put = f.put; among = f.is.among; bears = f.is.bears; needs = needed } in
+    let needs : Needs puts (at_version k v) c.from = record { put = f.put; among = f.is.among; pair_is = f.is.pair_is; needs = needed } in
     record { from = at_version k v; among = contains_head (at_version k v) []; reaches = reaches_dep puts (at_version k v) c.from p needs c.reaches }
 covers_after puts context (read k x v) p f c = record { from = c.from; among = gain_old context (at_version k v) c.from c.among; reaches = c.reaches }
 covers_after puts context (missed k) p f c = c
@@ -92,31 +92,31 @@ covers_later puts context (o ∷ ops) zero (suc j) p h l c =
 covers_later puts context (o ∷ ops) (suc i) (suc j) p h l c = covers_later puts (context_after context o) ops i j p h.1 (omega (arith, l)) c
 
 -- the pairs of contexts are pairs of puts
-pub borne_after : (puts : List PutRecord) (context : List Dep) (op : Operation) → IsFair puts context op → ((p : Dep) → Contains context p → Bears puts p) → (p : Dep) → Contains (context_after context op) p → Bears puts p
-borne_after puts context (write k x v) f b p h =
+pub has_puts_after : (puts : List PutRecord) (context : List Dep) (op : Operation) → IsFair puts context op → ((p : Dep) → Contains context p → HasPut puts p) → (p : Dep) → Contains (context_after context op) p → HasPut puts p
+has_puts_after puts context (write k x v) f b p h =
     let same = contains_one (at_version k v) p h in
-    record { put = f.put; among = f.is.among; bears = f.is.bears ∙ same }
-borne_after puts context (read k x v) f b p h = cases (gain_cases context (at_version k v) p h)
+    record { put = f.put; among = f.is.among; pair_is = f.is.pair_is ∙ same }
+has_puts_after puts context (read k x v) f b p h = cases (gain_cases context (at_version k v) p h)
   where
-    cases : Contains context p ⊎ (at_version k v ≡ p) → Bears puts p
+    cases : Contains context p ⊎ (at_version k v ≡ p) → HasPut puts p
     cases (inl old) = b p old
-    cases (inr e) = record { put = f.put; among = f.is.among; bears = f.is.bears ∙ e }
-borne_after puts context (missed k) f b p h = b p h
+    cases (inr e) = record { put = f.put; among = f.is.among; pair_is = f.is.pair_is ∙ e }
+has_puts_after puts context (missed k) f b p h = b p h
 
 module _ (puts : List PutRecord) (new : PutRecord) (c : IsConsistent puts) (fresh : (p : PutRecord) → Contains puts p → p.version ≢ new.version) where
   is_of_more : (k : List ℕ) (x : Option (List ℕ)) (v : ℕ) (put : PutRecord) → IsOf puts k x v put → IsOf (puts ++ new ∷ []) k x v put
-  is_of_more k x v put i = record { among = Contains-append_left puts (new ∷ []) put i.among; bears = i.bears; value = i.value }
+  is_of_more k x v put i = record { among = Contains-append_left puts (new ∷ []) put i.among; pair_is = i.pair_is; value = i.value }
 
   -- each operation stays fair with a new put
-  fair_more : (context : List Dep) (op : Operation) → ((p : Dep) → Contains context p → Bears puts p) → IsFair puts context op → IsFair (puts ++ new ∷ []) context op
+  fair_more : (context : List Dep) (op : Operation) → ((p : Dep) → Contains context p → HasPut puts p) → IsFair puts context op → IsFair (puts ++ new ∷ []) context op
   fair_more context (write k x v) b f = record { put = f.put; is = is_of_more k x v f.put f.is; deps = f.deps }
   fair_more context (read k x v) b f = record {
     put = f.put;
     is = is_of_more k x v f.put f.is;
-    newest = λ p q h r. f.newest p q h (reaches_old puts new c fresh p q (borne_after puts context (read k x v) f b p h) r);
+    newest = λ p q h r. f.newest p q h (reaches_old puts new c fresh p q (has_puts_after puts context (read k x v) f b p h) r);
   }
   fair_more context (missed k) b f = record { none = λ p q h r. f.none p q h (reaches_old puts new c fresh p q (b p h) r) }
 
-  pub all_fair_more : (context : List Dep) (ops : List Operation) → ((p : Dep) → Contains context p → Bears puts p) → AllFair puts context ops → AllFair (puts ++ new ∷ []) context ops
+  pub all_fair_more : (context : List Dep) (ops : List Operation) → ((p : Dep) → Contains context p → HasPut puts p) → AllFair puts context ops → AllFair (puts ++ new ∷ []) context ops
   all_fair_more context [] b h = tt
-  all_fair_more context (op ∷ ops) b h = (fair_more context op b h.0, all_fair_more (context_after context op) ops (borne_after puts context op h.0 b) h.1)
+  all_fair_more context (op ∷ ops) b h = (fair_more context op b h.0, all_fair_more (context_after context op) ops (has_puts_after puts context op h.0 b) h.1)

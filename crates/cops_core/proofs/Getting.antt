@@ -89,7 +89,7 @@ module _ (s : Setting) (w : World) (placed : Placed s w) (client : ℕ) (key : L
       put = record { key = key; value = t.value; version = t.version; deps = stored.put.deps }
 
       same : stored.put ≡ put
-      same = same_put stored.put key t.value t.version (ap (λ (x : Dep). x.key) stored.is.bears ∙ shown.on_key) stored.is.value (ap (λ (x : Dep). x.version) stored.is.bears)
+      same = same_put stored.put key t.value t.version (ap (λ (x : Dep). x.key) stored.is.pair_is ∙ shown.on_key) stored.is.value (ap (λ (x : Dep). x.version) stored.is.pair_is)
 
       there : settled_at s w dc (put_pair put) ≡ true
       there = subst (λ (k : List ℕ). has_pair node.settled (at_version k t.version) ≡ true) shown.on_key (has_from node.settled t shown.among)

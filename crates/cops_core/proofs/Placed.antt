@@ -57,7 +57,7 @@ pub record Change (s : Setting) (old new : World) (dc place : ℕ) (n : Node) : 
   pub contexts : length new.contexts ≡ length old.contexts
 
 pub is_stored_more : (s : Setting) (old new : List PutRecord) (q : ℕ) (t : Stored) → ((p : PutRecord) → Contains old p → Contains new p) → IsStored s old q t → IsStored s new q t
-is_stored_more s old new q t m i = record { put = i.put; is = record { among = m i.put i.is.among; bears = i.is.bears; value = i.is.value }; placed = i.placed }
+is_stored_more s old new q t m i = record { put = i.put; is = record { among = m i.put i.is.among; pair_is = i.is.pair_is; value = i.is.value }; placed = i.placed }
 
 pub is_held_more : (s : Setting) (old new : World) (d q : ℕ) (h : Waiting) → ((p : PutRecord) → Contains old.issued p → Contains new.issued p) → ((d : ℕ) (pair : Dep) → settled_at s old d pair ≡ true → settled_at s new d pair ≡ true) → IsHeld s old d q h → IsHeld s new d q h
 is_held_more s old new d q h m more i = record { among = m h.put i.among; placed = i.placed; marks = i.marks; marked = λ j dep a b. more d dep (i.marked j dep a b) }

@@ -190,4 +190,4 @@ kept_accepted home s k = (
     all n v p =
         let f : WasPut s.issued (context_before [] (session s.sessions n.client) n.index) p.0 p.1 v = fair_at s.issued [] (session s.sessions n.client) n.index (write p.0 p.1 v) (k.fair n.client) p.2 in
         let x = sorted_has s.sessions s.issued k.named f.put f.is.among in
-        (x.0, x.1, x.2 ∙ ap (λ d. d.version) f.is.bears)
+        (x.0, x.1, x.2 ∙ ap (λ d. d.version) f.is.pair_is)

@@ -22,7 +22,7 @@ use Rattle.cops_core.proofs.Nodes.{any_to, find_to, IsMarked, with_mark_cases, w
 use Rattle.cops_core.proofs.Placed.{settled_at, IsStored, IsHeld, Placed, Change, is_held_more, settled_more, placed_after, each_node}
 use Rattle.cops_core.proofs.Lists.{not_marked, get_set_cases, all_true_at, place_in}
 use Rattle.std.proofs.lemmas.List.{length-replicate}
-use Rattle.cops_core.proofs.Simulation.{view_from, settled_bears, SettlesOne, view_settles, view_stays, Goes, stays_goes, back_goes, primary_within, settles_there, settles_only, stored_from}
+use Rattle.cops_core.proofs.Simulation.{view_from, settled_has_put, SettlesOne, view_settles, view_stays, Goes, stays_goes, back_goes, primary_within, settles_there, settles_only, stored_from}
 
 -- a node of which only the held puts change
 pub record Holds (s : Setting) (w : World) (dc place : ℕ) (n : Node) : Type 0 where
@@ -274,8 +274,8 @@ module _ (s : Setting) (fits : length s.place.splits ≤ 63) (w : World) (placed
         offered = is.among;
         deps = λ d i. (
             let t = deps_settled d i in
-            let b = settled_bears s w placed dc d t in
-            (b.put, (view_from s w dc b.put b.among (subst (λ x. settled_at s w dc x ≡ true) (sym b.bears) t), b.bears)));
+            let b = settled_has_put s w placed dc d t in
+            (b.put, (view_from s w dc b.put b.among (subst (λ x. settled_at s w dc x ≡ true) (sym b.pair_is) t), b.pair_is)));
         issued = refl;
         settled = view_settles s w new dc h.put placed placed' settles;
         contexts = refl;

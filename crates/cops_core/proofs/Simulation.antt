@@ -11,7 +11,7 @@ use Rattle.cops_types.specs.NodeNumber.{version_of}
 use Rattle.cops_store.specs.Store.{Stored, stored_pair, has_pair, with_settled}
 use Rattle.cops_node.specs.declared.outcome.Outcome.{Outcome}
 use Rattle.cops_node.specs.Node.{put_pair, stored_of, Node}
-use Rattle.cops_core.specs.Dependencies.{Bears}
+use Rattle.cops_core.specs.Dependencies.{HasPut}
 use Rattle.cops_core.specs.Machine.{SettlesAt, Stays, Step, view}
 use Rattle.cops_core.specs.World.{Setting, IsSetting, home, primary, World, node_at, with_node, refusal, unless, settled_in}
 use Rattle.cops_core.proofs.Bounds.{IsBounded}
@@ -48,11 +48,11 @@ settled_here s w placed d pair = cases_true _ _ (settled_in_from w d (primary s 
     cases_true false false f g = refl
 
 -- the issued put of a settled pair
-pub settled_bears : (s : Setting) (w : World) → Placed s w → (d : ℕ) (pair : Dep) → settled_at s w d pair ≡ true → Bears w.issued pair
-settled_bears s w placed d pair h =
+pub settled_has_put : (s : Setting) (w : World) → Placed s w → (d : ℕ) (pair : Dep) → settled_at s w d pair ≡ true → HasPut w.issued pair
+settled_has_put s w placed d pair h =
     let item = has_to (node_at w d (primary s pair.key)).settled pair h in
     let stored = placed.stored d (primary s pair.key) item.item item.among in
-    record { put = stored.put; among = stored.is.among; bears = stored.is.bears ∙ item.is }
+    record { put = stored.put; among = stored.is.among; pair_is = stored.is.pair_is ∙ item.is }
 
 -- the conditions under which a data centre settles one put
 pub record SettlesOne (s : Setting) (old new : World) (dc : ℕ) (put : PutRecord) : Type 0 where
@@ -86,8 +86,8 @@ view_settles s old new dc put po pn o = record {
     other d ne p i (inr b) = absurd (ne b.0)
     other d ne p (inl a) (inl b) = view_from s old d p a b
     other d ne p (inr e) (inl b) =
-        let was = settled_bears s old po d (put_pair p) b in
-        let version : was.put.version ≡ put.version = ap (λ (x : Dep). x.version) was.bears ∙ ap (λ (x : PutRecord). x.version) (sym e) in
+        let was = settled_has_put s old po d (put_pair p) b in
+        let version : was.put.version ≡ put.version = ap (λ (x : Dep). x.version) was.pair_is ∙ ap (λ (x : PutRecord). x.version) (sym e) in
         let same = o.one was.put (o.issued was.put was.among) version in
         view_from s old d p (subst (λ x. Contains old.issued x) (sym same ∙ e) was.among) b
 
@@ -170,4 +170,4 @@ module _ (s : Setting) (fits : length s.place.splits ≤ 63) (old new : World) (
 
 -- the issued put of a stored one
 pub stored_from : (s : Setting) (issued : List PutRecord) (place : ℕ) (put : PutRecord) (t : Stored) → Contains issued put → place ≡ primary s put.key → stored_of put ≡ t → IsStored s issued place t
-stored_from s issued place put t h e same = subst (IsStored s issued place) same (record { put = put; is = record { among = h; bears = refl; value = refl }; placed = e })
+stored_from s issued place put t h e same = subst (IsStored s issued place) same (record { put = put; is = record { among = h; pair_is = refl; value = refl }; placed = e })

@@ -8,7 +8,7 @@ use Rattle.cops_types.specs.declared.op.OpName.{OpName}
 use Rattle.cops_types.specs.Histories.{op_at, Operation, write, read, missed}
 use Rattle.cops_context.specs.Context.{with_pair}
 use Rattle.cops_node.specs.Node.{put_pair}
-use Rattle.cops_core.specs.Dependencies.{Bears, Reaches, IsConsistent, IsClosed}
+use Rattle.cops_core.specs.Dependencies.{HasPut, Reaches, IsConsistent, IsClosed}
 use Rattle.cops_core.specs.Machine.{State, session, context_of, SettlesAt, Answers, Puts, Gets, Misses, Settles, Stays, Step}
 use Rattle.cops_core.proofs.Lists.{contains_one, contains_none, gain_cases, get_pushed, get_kept, get_last}
 use Rattle.cops_core.proofs.Reaching.{reaches_settled}
@@ -16,8 +16,8 @@ use Rattle.cops_core.proofs.Contexts.{context_after, context_before, WasPut, IsF
 use Rattle.cops_core.proofs.Accepted.{IsOnce, Kept}
 
 -- adding puts keeps the pairs of puts
-pub bears_more : (puts more : List PutRecord) (p : Dep) → ((q : PutRecord) → Contains puts q → Contains more q) → Bears puts p → Bears more p
-bears_more puts more p m b = record { put = b.put; among = m b.put b.among; bears = b.bears }
+pub has_put_more : (puts more : List PutRecord) (p : Dep) → ((q : PutRecord) → Contains puts q → Contains more q) → HasPut puts p → HasPut more p
+has_put_more puts more p m b = record { put = b.put; among = m b.put b.among; pair_is = b.pair_is }
 
 -- a put that a data centre had settled stays settled
 settled_stays : (old new : State) (dc : ℕ) (put : PutRecord) → SettlesAt old new dc put → (d : ℕ) (p : PutRecord) → Contains (old.settled d) p → Contains (new.settled d) p
@@ -46,12 +46,12 @@ settled_known old new dc put puts s known h d p i = cases (settled_cases old new
     cases (inl o) = known d p o
     cases (inr e) = subst (λ (x : PutRecord). Contains puts x) e.1 h
 
-settled_closed : (old new : State) (dc : ℕ) (put : PutRecord) → SettlesAt old new dc put → ((d : ℕ) → IsClosed (old.settled d)) → ((dep : Dep) → Contains put.deps dep → Bears (old.settled dc) dep) → (d : ℕ) → IsClosed (new.settled d)
-settled_closed old new dc put s closed deps d p dep hp hd = bears_more _ _ dep (settled_stays old new dc put s d) (cases (settled_cases old new dc put s d p hp))
+settled_closed : (old new : State) (dc : ℕ) (put : PutRecord) → SettlesAt old new dc put → ((d : ℕ) → IsClosed (old.settled d)) → ((dep : Dep) → Contains put.deps dep → HasPut (old.settled dc) dep) → (d : ℕ) → IsClosed (new.settled d)
+settled_closed old new dc put s closed deps d p dep hp hd = has_put_more _ _ dep (settled_stays old new dc put s d) (cases (settled_cases old new dc put s d p hp))
   where
-    cases : Contains (old.settled d) p ⊎ ((d ≡ dc) × (put ≡ p)) → Bears (old.settled d) dep
+    cases : Contains (old.settled d) p ⊎ ((d ≡ dc) × (put ≡ p)) → HasPut (old.settled d) dep
     cases (inl o) = closed d p dep o hd
-    cases (inr e) = subst (λ n. Bears (old.settled n) dep) (sym e.0) (deps dep (subst (λ (x : PutRecord). Contains x.deps dep) (sym e.1) hd))
+    cases (inr e) = subst (λ n. HasPut (old.settled n) dep) (sym e.0) (deps dep (subst (λ (x : PutRecord). Contains x.deps dep) (sym e.1) hd))
 
 -- the context after a session
 abbrev AtEnd : List Dep → List Operation → Type 0
@@ -119,11 +119,11 @@ module _ (old new : State) (client : ℕ) (op : Operation) (context : List Dep) 
           (context_here ∙ is ∙ ap (λ x. context_after x op) (ctx client) ∙ sym (context_pushed [] (session old.sessions client) op)))
       cases (inr ne) = subst (λ s. AtEnd (context_of new c) s) (sym (session_other c ne)) (context_other c ne ∙ ctx c)
 
-  answers_held : (settled : ℕ → List PutRecord) → ((c : ℕ) (p : Dep) → Contains (context_of old c) p → Bears (settled c) p) → ((p : Dep) → Contains context p → Bears (settled client) p) → (c : ℕ) (p : Dep) → Contains (context_of new c) p → Bears (settled c) p
+  answers_held : (settled : ℕ → List PutRecord) → ((c : ℕ) (p : Dep) → Contains (context_of old c) p → HasPut (settled c) p) → ((p : Dep) → Contains context p → HasPut (settled client) p) → (c : ℕ) (p : Dep) → Contains (context_of new c) p → HasPut (settled c) p
   answers_held settled held here c p h = cases (cases_eq c client)
     where
-      cases : (c ≡ client) ⊎ (c ≡ client → ⊥) → Bears (settled c) p
-      cases (inl same) = subst (λ n. Bears (settled n) p) (sym same) (here p (subst (λ x. Contains x p) context_here (subst (λ n. Contains (context_of new n) p) same h)))
+      cases : (c ≡ client) ⊎ (c ≡ client → ⊥) → HasPut (settled c) p
+      cases (inl same) = subst (λ n. HasPut (settled n) p) (sym same) (here p (subst (λ x. Contains x p) context_here (subst (λ n. Contains (context_of new n) p) same h)))
       cases (inr ne) = held c p (subst (λ x. Contains x p) (context_other c ne) h)
 
   answers_named : (puts : List PutRecord) → ((p : PutRecord) → Contains puts p → (n : OpName) × (op_at old.sessions n ≡ Some (write p.key p.value p.version))) → (p : PutRecord) → Contains puts p → (n : OpName) × (op_at new.sessions n ≡ Some (write p.key p.value p.version))
@@ -139,11 +139,11 @@ module _ (old new : State) (client : ℕ) (op : Operation) (context : List Dep) 
       cases (inr a) (inr b) = a.0 ∙ sym b.0
 
 -- a consistent list of puts stays consistent with one more
-consistent_more : (puts : List PutRecord) (new : PutRecord) → IsConsistent puts → ((p : PutRecord) → Contains puts p → p.version ≢ new.version) → ((d : Dep) → Contains new.deps d → d.version < new.version) → ((d : Dep) → Contains new.deps d → Bears puts d) → IsConsistent (puts ++ new ∷ [])
-consistent_more puts new c fresh above borne = record {
+consistent_more : (puts : List PutRecord) (new : PutRecord) → IsConsistent puts → ((p : PutRecord) → Contains puts p → p.version ≢ new.version) → ((d : Dep) → Contains new.deps d → d.version < new.version) → ((d : Dep) → Contains new.deps d → HasPut puts d) → IsConsistent (puts ++ new ∷ [])
+consistent_more puts new c fresh above has_puts = record {
   unique = λ p q hp hq e. unique p q (Contains-push_cases puts new p hp) (Contains-push_cases puts new q hq) e;
   above = λ p d hp hd. above_all p d (Contains-push_cases puts new p hp) hd;
-  borne = λ p d hp hd. bears_more puts _ d (λ q. Contains-append_left puts (new ∷ []) q) (borne_all p d (Contains-push_cases puts new p hp) hd);
+  has_puts = λ p d hp hd. has_put_more puts _ d (λ q. Contains-append_left puts (new ∷ []) q) (has_puts_all p d (Contains-push_cases puts new p hp) hd);
 }
   where
     version_of : (p q : PutRecord) → p ≡ q → p.version ≡ q.version
@@ -159,16 +159,16 @@ consistent_more puts new c fresh above borne = record {
     above_all p d (inl a) h = c.above p d a h
     above_all p d (inr a) h = subst (λ (x : PutRecord). d.version < x.version) a (above d (subst (λ (x : PutRecord). Contains x.deps d) (sym a) h))
 
-    borne_all : (p : PutRecord) (d : Dep) → Contains puts p ⊎ (new ≡ p) → Contains p.deps d → Bears puts d
-    borne_all p d (inl a) h = c.borne p d a h
-    borne_all p d (inr a) h = borne d (subst (λ (x : PutRecord). Contains x.deps d) (sym a) h)
+    has_puts_all : (p : PutRecord) (d : Dep) → Contains puts p ⊎ (new ≡ p) → Contains p.deps d → HasPut puts d
+    has_puts_all p d (inl a) h = c.has_puts p d a h
+    has_puts_all p d (inr a) h = has_puts d (subst (λ (x : PutRecord). Contains x.deps d) (sym a) h)
 
 module _ (home : ℕ → ℕ) (old new : State) (k : Kept home old) where
-  settled_issued : (d : ℕ) (p : Dep) → Bears (old.settled d) p → Bears old.issued p
-  settled_issued d p b = bears_more _ _ p (k.known d) b
+  settled_issued : (d : ℕ) (p : Dep) → HasPut (old.settled d) p → HasPut old.issued p
+  settled_issued d p b = has_put_more _ _ p (k.known d) b
 
   -- every pair that a client's context reaches is settled in its data centre
-  context_settled : (client : ℕ) (p q : Dep) → Contains (context_of old client) p → Reaches old.issued p q → Bears (old.settled (home client)) q
+  context_settled : (client : ℕ) (p q : Dep) → Contains (context_of old client) p → Reaches old.issued p q → HasPut (old.settled (home client)) q
   context_settled client p q h r =
       reaches_settled old.issued (old.settled (home client)) k.consistent (k.closed (home client)) (k.known (home client)) p q (k.held client p h) r
 
@@ -179,13 +179,13 @@ module _ (home : ℕ → ℕ) (old new : State) (k : Kept home old) where
         (settled_known old new (home client) put (old.issued ++ put ∷ []) s.settled (λ e q i. Contains-append_left old.issued (put ∷ []) q (k.known e q i)) (Contains-push old.issued put) d p h);
     closed = settled_closed old new (home client) put s.settled k.closed deps_settled;
     held = answers_held old new client op (put_pair put ∷ []) s.answers (λ c. new.settled (home c))
-        (λ c p h. bears_more _ _ p (settled_stays old new (home client) put s.settled (home c)) (k.held c p h))
-        (λ p h. record { put = put; among = (s.settled.here put).1 (inr refl); bears = contains_one (put_pair put) p h });
+        (λ c p h. has_put_more _ _ p (settled_stays old new (home client) put s.settled (home c)) (k.held c p h))
+        (λ p h. record { put = put; among = (s.settled.here put).1 (inr refl); pair_is = contains_one (put_pair put) p h });
     fair = subst (λ (x : List PutRecord). (c : ℕ) → AllFair x [] (session new.sessions c)) (sym s.issued)
         (answers_fair old new client op (put_pair put ∷ []) s.answers (old.issued ++ put ∷ [])
         (λ c. all_fair_more old.issued put k.consistent s.fresh [] (session old.sessions c) (λ p h. absurd (contains_none p h)) (k.fair c))
         (k.contexts client)
-        (record { put = put; is = record { among = Contains-push old.issued put; bears = refl; value = refl }; deps = s.deps }));
+        (record { put = put; is = record { among = Contains-push old.issued put; pair_is = refl; value = refl }; deps = s.deps }));
     contexts = answers_contexts old new client op (put_pair put ∷ []) s.answers k.contexts refl;
     named = λ p h. named_all p (Contains-push_cases old.issued put p (subst (λ x. Contains x p) s.issued h));
     once = answers_once old new client op (put_pair put ∷ []) s.answers k.once once_fresh;
@@ -194,7 +194,7 @@ module _ (home : ℕ → ℕ) (old new : State) (k : Kept home old) where
       op : Operation
       op = write put.key put.value put.version
 
-      deps_settled : (d : Dep) → Contains put.deps d → Bears (old.settled (home client)) d
+      deps_settled : (d : Dep) → Contains put.deps d → HasPut (old.settled (home client)) d
       deps_settled d h = k.held client d (subst (λ x. Contains x d) s.deps h)
 
       named_all : (p : PutRecord) → Contains old.issued p ⊎ (put ≡ p) → (n : OpName) × (op_at new.sessions n ≡ Some (write p.key p.value p.version))
@@ -207,7 +207,7 @@ module _ (home : ℕ → ℕ) (old new : State) (k : Kept home old) where
       once_fresh : (n : OpName) (a l : List ℕ) (x y : Option (List ℕ)) (v : ℕ) → op ≡ write a x v → op_at old.sessions n ≡ Some (write l y v) → ⊥
       once_fresh n a l x y v e o =
           let f : WasPut old.issued (context_before [] (session old.sessions n.client) n.index) l y v = fair_at old.issued [] (session old.sessions n.client) n.index (write l y v) (k.fair n.client) o in
-          let version : f.put.version ≡ v = ap (λ (p : Dep). p.version) f.is.bears in
+          let version : f.put.version ≡ v = ap (λ (p : Dep). p.version) f.is.pair_is in
           let same : put.version ≡ v = cc in
           s.fresh f.put f.is.among (version ∙ sym same)
 
@@ -216,11 +216,11 @@ module _ (home : ℕ → ℕ) (old new : State) (k : Kept home old) where
     consistent = subst IsConsistent (sym s.issued) k.consistent;
     known = λ d p h. subst (λ x. Contains x p) (sym s.issued) (k.known d p (subst (λ (f : ℕ → List PutRecord). Contains (f d) p) s.settled h));
     closed = λ d. subst (λ (f : ℕ → List PutRecord). IsClosed (f d)) (sym s.settled) (k.closed d);
-    held = λ c. subst (λ (f : ℕ → List PutRecord). (p : Dep) → Contains (context_of new c) p → Bears (f (home c)) p) (sym s.settled)
+    held = λ c. subst (λ (f : ℕ → List PutRecord). (p : Dep) → Contains (context_of new c) p → HasPut (f (home c)) p) (sym s.settled)
         (answers_held old new client op context s.answers (λ c. old.settled (home c)) k.held held_here c);
     fair = subst (λ (x : List PutRecord). (c : ℕ) → AllFair x [] (session new.sessions c)) (sym s.issued)
         (answers_fair old new client op context s.answers old.issued k.fair (k.contexts client)
-        (record { put = put; is = record { among = k.known (home client) put s.shown; bears = refl; value = refl }; newest = newest }));
+        (record { put = put; is = record { among = k.known (home client) put s.shown; pair_is = refl; value = refl }; newest = newest }));
     contexts = answers_contexts old new client op context s.answers k.contexts refl;
     named = subst (λ (x : List PutRecord). (p : PutRecord) → Contains x p → (n : OpName) × (op_at new.sessions n ≡ Some (write p.key p.value p.version))) (sym s.issued)
         (answers_named old new client op context s.answers old.issued k.named);
@@ -233,18 +233,18 @@ module _ (home : ℕ → ℕ) (old new : State) (k : Kept home old) where
       context : List Dep
       context = with_pair (context_of old client) (put_pair put)
 
-      held_here : (p : Dep) → Contains context p → Bears (old.settled (home client)) p
+      held_here : (p : Dep) → Contains context p → HasPut (old.settled (home client)) p
       held_here p h = held_cases p (gain_cases (context_of old client) (put_pair put) p h)
         where
-          held_cases : (p : Dep) → Contains (context_of old client) p ⊎ (put_pair put ≡ p) → Bears (old.settled (home client)) p
+          held_cases : (p : Dep) → Contains (context_of old client) p ⊎ (put_pair put ≡ p) → HasPut (old.settled (home client)) p
           held_cases p (inl o) = k.held client p o
-          held_cases p (inr e) = record { put = put; among = s.shown; bears = e }
+          held_cases p (inr e) = record { put = put; among = s.shown; pair_is = e }
 
       newest : (p q : Dep) → Contains context p → Reaches old.issued p q → q.key ≡ put.key → q.version ≤ put.version
       newest p q h r e =
           let b = reaches_settled old.issued (old.settled (home client)) k.consistent (k.closed (home client)) (k.known (home client)) p q (held_here p h) r in
-          let key : b.put.key ≡ put.key = ap (λ (x : Dep). x.key) b.bears ∙ e in
-          let version : b.put.version ≡ q.version = ap (λ (x : Dep). x.version) b.bears in
+          let key : b.put.key ≡ put.key = ap (λ (x : Dep). x.key) b.pair_is ∙ e in
+          let version : b.put.version ≡ q.version = ap (λ (x : Dep). x.version) b.pair_is in
           let le = s.greatest b.put b.among key in
           omega arith
 
@@ -253,7 +253,7 @@ module _ (home : ℕ → ℕ) (old new : State) (k : Kept home old) where
     consistent = subst IsConsistent (sym s.issued) k.consistent;
     known = λ d p h. subst (λ x. Contains x p) (sym s.issued) (k.known d p (subst (λ (f : ℕ → List PutRecord). Contains (f d) p) s.settled h));
     closed = λ d. subst (λ (f : ℕ → List PutRecord). IsClosed (f d)) (sym s.settled) (k.closed d);
-    held = λ c. subst (λ (f : ℕ → List PutRecord). (p : Dep) → Contains (context_of new c) p → Bears (f (home c)) p) (sym s.settled)
+    held = λ c. subst (λ (f : ℕ → List PutRecord). (p : Dep) → Contains (context_of new c) p → HasPut (f (home c)) p) (sym s.settled)
         (answers_held old new client (missed key) (context_of old client) s.answers (λ c. old.settled (home c)) k.held (k.held client) c);
     fair = subst (λ (x : List PutRecord). (c : ℕ) → AllFair x [] (session new.sessions c)) (sym s.issued)
         (answers_fair old new client (missed key) (context_of old client) s.answers old.issued k.fair (k.contexts client) (record { none = none }));
@@ -266,15 +266,15 @@ module _ (home : ℕ → ℕ) (old new : State) (k : Kept home old) where
       none : (p q : Dep) → Contains (context_of old client) p → Reaches old.issued p q → q.key ≢ key
       none p q h r e =
           let b = context_settled client p q h r in
-          let same : b.put.key ≡ key = ap (λ (x : Dep). x.key) b.bears ∙ e in
+          let same : b.put.key ≡ key = ap (λ (x : Dep). x.key) b.pair_is ∙ e in
           s.none b.put b.among same
 
   settles_kept : (dc : ℕ) (put : PutRecord) → Settles old new dc put → Kept home new
   settles_kept dc put s = record {
     consistent = subst IsConsistent (sym s.issued) k.consistent;
     known = λ d p h. subst (λ x. Contains x p) (sym s.issued) (settled_known old new dc put old.issued s.settled k.known s.offered d p h);
-    closed = settled_closed old new dc put s.settled k.closed (λ d h. let b = s.deps d h in record { put = b.0; among = b.1.0; bears = b.1.1 });
-    held = λ c p h. bears_more _ _ p (settled_stays old new dc put s.settled (home c)) (k.held c p (subst (λ (x : List (List Dep)). Contains (slice_index_or x c []) p) s.contexts h));
+    closed = settled_closed old new dc put s.settled k.closed (λ d h. let b = s.deps d h in record { put = b.0; among = b.1.0; pair_is = b.1.1 });
+    held = λ c p h. has_put_more _ _ p (settled_stays old new dc put s.settled (home c)) (k.held c p (subst (λ (x : List (List Dep)). Contains (slice_index_or x c []) p) s.contexts h));
     fair = λ c. subst (λ (x : List PutRecord). AllFair x [] (session new.sessions c)) (sym s.issued) (subst (λ h. AllFair old.issued [] (session h c)) (sym s.sessions) (k.fair c));
     contexts = λ c. subst (λ (x : List (List Dep)). AtEnd (slice_index_or x c []) (session new.sessions c)) (sym s.contexts) (subst (λ h. AtEnd (context_of old c) (session h c)) (sym s.sessions) (k.contexts c));
     named = λ p h. let n = k.named p (subst (λ x. Contains x p) s.issued h) in (n.0, subst (λ h. op_at h n.0 ≡ Some (write p.key p.value p.version)) (sym s.sessions) n.1);
@@ -285,8 +285,8 @@ module _ (home : ℕ → ℕ) (old new : State) (k : Kept home old) where
   stays_kept s = record {
     consistent = subst IsConsistent (sym s.issued) k.consistent;
     known = λ d p h. subst (λ x. Contains x p) (sym s.issued) (k.known d p ((s.settled d p).0 h));
-    closed = λ d p dep hp hd. bears_more _ _ dep (λ q h. (s.settled d q).1 h) (k.closed d p dep ((s.settled d p).0 hp) hd);
-    held = λ c p h. bears_more _ _ p (λ q i. (s.settled (home c) q).1 i) (k.held c p (subst (λ (x : List (List Dep)). Contains (slice_index_or x c []) p) s.contexts h));
+    closed = λ d p dep hp hd. has_put_more _ _ dep (λ q h. (s.settled d q).1 h) (k.closed d p dep ((s.settled d p).0 hp) hd);
+    held = λ c p h. has_put_more _ _ p (λ q i. (s.settled (home c) q).1 i) (k.held c p (subst (λ (x : List (List Dep)). Contains (slice_index_or x c []) p) s.contexts h));
     fair = λ c. subst (λ (x : List PutRecord). AllFair x [] (session new.sessions c)) (sym s.issued) (subst (λ h. AllFair old.issued [] (session h c)) (sym s.sessions) (k.fair c));
     contexts = λ c. subst (λ (x : List (List Dep)). AtEnd (slice_index_or x c []) (session new.sessions c)) (sym s.contexts) (subst (λ h. AtEnd (context_of old c) (session h c)) (sym s.sessions) (k.contexts c));
     named = λ p h. let n = k.named p (subst (λ x. Contains x p) s.issued h) in (n.0, subst (λ h. op_at h n.0 ≡ Some (write p.key p.value p.version)) (sym s.sessions) n.1);

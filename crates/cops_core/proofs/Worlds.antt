@@ -25,7 +25,7 @@ use Rattle.cops_held.specs.Held.{waiting}
 use Rattle.cops_node.specs.declared.outcome.Outcome.{Outcome}
 use Rattle.cops_node.specs.declared.outcome.Outcome.TheVariants.{Refused}
 use Rattle.cops_node.specs.Node.{put_pair, Node, opened, raised, write_at}
-use Rattle.cops_core.specs.Dependencies.{Bears}
+use Rattle.cops_core.specs.Dependencies.{HasPut}
 use Rattle.cops_core.specs.Machine.{context_of, session, Step, view}
 use Rattle.cops_core.specs.World.{Setting, IsSetting, home, primary, World, node_at, context_in, sent, is_answered, knows, has_room, has_context_room, is_dc, checks, refusal, keeps, done, Act, Event, act_of, WriteBy, GetBy, DeliverTo, AskAt, MarkAt, SettleAt, happens, Happens, row, rows, opening, Run, IsReached}
 use Rattle.cops_types.specs.Verdicts.{HasAcceptedVerdict}
@@ -39,7 +39,7 @@ use Rattle.cops_core.proofs.Rising.{kept_accepted}
 use Rattle.cops_core.proofs.Steps.{step_kept}
 use Rattle.cops_core.proofs.Bounds.{IsBounded, no_pairs}
 use Rattle.cops_core.proofs.Placed.{settled_at, Placed}
-use Rattle.cops_core.proofs.Simulation.{view_from, settled_bears, Goes, stays_goes, back_goes, unless_goes, first_passed}
+use Rattle.cops_core.proofs.Simulation.{view_from, settled_has_put, Goes, stays_goes, back_goes, unless_goes, first_passed}
 use Rattle.cops_core.proofs.Putting.{put_goes}
 use Rattle.cops_core.proofs.Getting.{get_goes}
 use Rattle.cops_core.proofs.Settling.{deliver_goes, ask_goes, mark_goes, settle_goes}
@@ -170,7 +170,7 @@ opening_placed s = record {
 
 opening_kept : (s : Setting) → Kept (home s) (view (opening s))
 opening_kept s = record {
-  consistent = record { unique = λ p q h. absurd (contains_none p h); above = λ p d h. absurd (contains_none p h); borne = λ p d h. absurd (contains_none p h) };
+  consistent = record { unique = λ p q h. absurd (contains_none p h); above = λ p d h. absurd (contains_none p h); has_puts = λ p d h. absurd (contains_none p h) };
   known = λ d p h. h;
   closed = λ d p x h. absurd (contains_none p h);
   held = λ c p h. absurd (contains_none p (subst (λ x. Contains x p) (no_entry (length s.homes) c) h));
@@ -201,10 +201,10 @@ pub reached_steps : (s : Setting) → IsSetting s → (w : World) → IsReached 
 reached_steps s ok w r e o new h = (event_goes s ok w (reached_sound s ok w r) e o new h).step
 
 -- a pair settled at a primary is settled in the view
-view_bears : (s : Setting) (w : World) → Placed s w → (d : ℕ) (pair : Dep) → settled_at s w d pair ≡ true → Bears ((view w).settled d) pair
-view_bears s w placed d pair h =
-    let b = settled_bears s w placed d pair h in
-    record { put = b.put; among = view_from s w d b.put b.among (subst (λ x. settled_at s w d x ≡ true) (sym b.bears) h); bears = b.bears }
+view_has_put : (s : Setting) (w : World) → Placed s w → (d : ℕ) (pair : Dep) → settled_at s w d pair ≡ true → HasPut ((view w).settled d) pair
+view_has_put s w placed d pair h =
+    let b = settled_has_put s w placed d pair h in
+    record { put = b.put; among = view_from s w d b.put b.among (subst (λ x. settled_at s w d x ≡ true) (sym b.pair_is) h); pair_is = b.pair_is }
 
 same_stored : (p : PutRecord) (k : List ℕ) (x : Option (List ℕ)) (v : ℕ) → put_pair p ≡ at_version k v → p.value ≡ x → (p.key ≡ k) × (p.value ≡ x) × (p.version ≡ v)
 same_stored p k x v e f = (ap (λ (d : Dep). d.key) e, f, ap (λ (d : Dep). d.version) e)
@@ -212,13 +212,13 @@ same_stored p k x v e f = (ap (λ (d : Dep). d.key) e, f, ap (λ (d : Dep). d.ve
 pub sound_invariants : (s : Setting) (w : World) → Sound s w → Invariants s w
 sound_invariants s w sound = record {
   closed = kept.closed;
-  said = λ y h. view_bears s w placed y.dc y.pair (placed.said y h);
-  marked = λ d q x i dep h m e. view_bears s w placed d dep ((placed.held d q x h).marked i dep m e);
+  said = λ y h. view_has_put s w placed y.dc y.pair (placed.said y h);
+  marked = λ d q x i dep h m e. view_has_put s w placed d dep ((placed.held d q x h).marked i dep m e);
   carried = carried;
   consistent = kept.consistent;
   clocks = placed.behind;
   held = λ d q x h. (placed.held d q x h).among;
-  settled = λ d q t h. (let i = placed.stored d q t h in let n = same_stored i.put t.key t.value t.version i.is.bears i.is.value in (i.put, i.is.among, n.0, n.1, n.2));
+  settled = λ d q t h. (let i = placed.stored d q t h in let n = same_stored i.put t.key t.value t.version i.is.pair_is i.is.value in (i.put, i.is.among, n.0, n.1, n.2));
   issued = kept.named;
   once = none_doubled w.sessions kept.once;
   wrote = wrote;
@@ -237,13 +237,13 @@ sound_invariants s w sound = record {
     wrote : (n : OpName) (k : List ℕ) (x : Option (List ℕ)) (v : ℕ) → IsPut w.sessions n k x v → IsIssued w k x v
     wrote n k x v e =
         let f : WasPut w.issued (context_before [] (session w.sessions n.client) n.index) k x v = fair_at w.issued [] (session w.sessions n.client) n.index (write k x v) (kept.fair n.client) e in
-        let same = same_stored f.put k x v f.is.bears f.is.value in
+        let same = same_stored f.put k x v f.is.pair_is f.is.value in
         (f.put, f.is.among, same.0, same.1, same.2)
 
     got : (n : OpName) (k : List ℕ) (x : Option (List ℕ)) (v : ℕ) → IsGot w.sessions n k x v → IsIssued w k x v
     got n k x v e =
         let f : WasGot w.issued (context_before [] (session w.sessions n.client) n.index) k x v = fair_at w.issued [] (session w.sessions n.client) n.index (read k x v) (kept.fair n.client) e in
-        let same = same_stored f.put k x v f.is.bears f.is.value in
+        let same = same_stored f.put k x v f.is.pair_is f.is.value in
         (f.put, f.is.among, same.0, same.1, same.2)
 
     carried : (a b : OpName) (k : List ℕ) (x : Option (List ℕ)) (v : ℕ) → IsPut w.sessions a k x v → IsNamed w.sessions b → Past w.sessions a b → IsCarried (view w) (home s b.client) b.client (record { key = k; version = v })

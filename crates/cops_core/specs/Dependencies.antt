@@ -5,16 +5,16 @@ use Rattle.cops_types.specs.declared.put_record.PutRecord.{PutRecord}
 use Rattle.cops_node.specs.Node.{put_pair}
 
 -- one of the puts has this key and version
-pub record Bears (puts : List PutRecord) (pair : Dep) : Type 0 where
+pub record HasPut (puts : List PutRecord) (pair : Dep) : Type 0 where
   pub put : PutRecord
   pub among : Contains puts put
-  pub bears : put_pair put ≡ pair
+  pub pair_is : put_pair put ≡ pair
 
 -- `dep` is a dependency of the put with this key and version
 pub record Needs (puts : List PutRecord) (pair dep : Dep) : Type 0 where
   pub put : PutRecord
   pub among : Contains puts put
-  pub bears : put_pair put ≡ pair
+  pub pair_is : put_pair put ≡ pair
   pub needs : Contains put.deps dep
 
 -- `via` is a path from `pair` to `last`, on which each pair is a dependency of the one before; the empty path leads from a pair to itself
@@ -30,8 +30,8 @@ Reaches puts pair last = (via : List Dep) × LeadsBack puts pair via last
 pub record IsConsistent (puts : List PutRecord) : Type 0 where
   pub unique : (p q : PutRecord) → Contains puts p → Contains puts q → p.version ≡ q.version → p ≡ q
   pub above : (p : PutRecord) (d : Dep) → Contains puts p → Contains p.deps d → d.version < p.version
-  pub borne : (p : PutRecord) (d : Dep) → Contains puts p → Contains p.deps d → Bears puts d
+  pub has_puts : (p : PutRecord) (d : Dep) → Contains puts p → Contains p.deps d → HasPut puts d
 
 -- each dependency of a put is the pair of a put in the list
 abbrev pub IsClosed : List PutRecord → Type 0
-IsClosed puts = (p : PutRecord) (d : Dep) → Contains puts p → Contains p.deps d → Bears puts d
+IsClosed puts = (p : PutRecord) (d : Dep) → Contains puts p → Contains p.deps d → HasPut puts d

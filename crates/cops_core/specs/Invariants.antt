@@ -13,7 +13,7 @@ use Rattle.cops_types.specs.Format.{most_deps, Fits, IsInFormat}
 use Rattle.cops_context.specs.Kept.{IsContext}
 use Rattle.cops_store.specs.Store.{Stored}
 use Rattle.cops_held.specs.Held.{Waiting}
-use Rattle.cops_core.specs.Dependencies.{Bears, Reaches, IsConsistent, IsClosed}
+use Rattle.cops_core.specs.Dependencies.{HasPut, Reaches, IsConsistent, IsClosed}
 use Rattle.cops_core.specs.Machine.{State, context_of, view}
 use Rattle.cops_core.specs.World.{Setting, home, World, node_at, context_in, Said}
 
@@ -25,7 +25,7 @@ pub record Covers (puts : List PutRecord) (context : List Dep) (pair : Dep) : Ty
 
 -- a put in the past of one of the client's operations is settled in its data centre, and reached from its context
 pub record IsCarried (s : State) (dc client : ℕ) (pair : Dep) : Type 0 where
-  pub settled : Bears (s.settled dc) pair
+  pub settled : HasPut (s.settled dc) pair
   pub covered : Covers s.issued (context_of s client) pair
 
 -- an issued put has this key, content and version
@@ -40,8 +40,8 @@ pub record Invariants (s : Setting) (w : World) : Type 0 where
   -- the set of puts that a data centre has settled is closed under dependencies
   pub closed : (dc : ℕ) → IsClosed ((view w).settled dc)
   -- a Yes answer, and a mark, is for a settled pair
-  pub said : (y : Said) → Contains w.said y → Bears ((view w).settled y.dc) y.pair
-  pub marked : (dc place : ℕ) (h : Waiting) (i : ℕ) (d : Dep) → Contains (node_at w dc place).held h → slice_get h.marks i ≡ Some true → slice_get h.put.deps i ≡ Some d → Bears ((view w).settled dc) d
+  pub said : (y : Said) → Contains w.said y → HasPut ((view w).settled y.dc) y.pair
+  pub marked : (dc place : ℕ) (h : Waiting) (i : ℕ) (d : Dep) → Contains (node_at w dc place).held h → slice_get h.marks i ≡ Some true → slice_get h.put.deps i ≡ Some d → HasPut ((view w).settled dc) d
   -- every put in the past of a client's operation is settled in the client's data centre, and reached from its context
   pub carried : (a b : OpName) (key : List ℕ) (content : Option (List ℕ)) (version : ℕ) → IsPut w.sessions a key content version → IsNamed w.sessions b → Past w.sessions a b → IsCarried (view w) (home s b.client) b.client (record { key = key; version = version })
   -- versions identify puts and are above those of dependencies, and no clock is behind what was settled

@@ -7,18 +7,18 @@ use Rattle.cops_audit.specs.declared.fault.Fault.{Fault}
 use Rattle.cops_explain.specs.Paragraphs.{AddsParagraph, IsParagraph}
 use Rattle.cops_explain.specs.Explained.{AddsParagraphs, AreParagraphs}
 
-more_paragraphs : (h : Sessions) (f : Fault) (told : List ℕ) (number : ℕ) (faults : List Fault) (text : List ℕ) → IsParagraph h (number + length faults) f told → AreParagraphs h number faults text
-    → AreParagraphs h number (faults ++ f ∷ []) (text ++ told)
-more_paragraphs h f told number [] text one all =
+more_paragraphs : (h : Sessions) (f : Fault) (reported : List ℕ) (number : ℕ) (faults : List Fault) (text : List ℕ) → IsParagraph h (number + length faults) f reported → AreParagraphs h number faults text
+    → AreParagraphs h number (faults ++ f ∷ []) (text ++ reported)
+more_paragraphs h f reported number [] text one all =
     let same : number + 0 ≡ number = omega arith in
-    (told, [], subst (λ (n : ℕ). IsParagraph h n f told) same one, ap (λ (t : List ℕ). t ++ told) all ∙ sym (append-nil told), refl)
-more_paragraphs h f told number (g ∷ faults) text one all =
+    (reported, [], subst (λ (n : ℕ). IsParagraph h n f reported) same one, ap (λ (t : List ℕ). t ++ reported) all ∙ sym (append-nil reported), refl)
+more_paragraphs h f reported number (g ∷ faults) text one all =
     let next : number + length (g ∷ faults) ≡ number + 1 + length faults = omega arith in (
       all.0,
-      all.1 ++ told,
+      all.1 ++ reported,
       all.2,
-      ap (λ (t : List ℕ). t ++ told) all.3 ∙ append_assoc all.0 all.1 told,
-      more_paragraphs h f told (number + 1) faults all.1 (subst (λ (n : ℕ). IsParagraph h n f told) next one) all.4,
+      ap (λ (t : List ℕ). t ++ reported) all.3 ∙ append_assoc all.0 all.1 reported,
+      more_paragraphs h f reported (number + 1) faults all.1 (subst (λ (n : ℕ). IsParagraph h n f reported) next one) all.4,
     )
 
 pub none_added : (h : Sessions) (old : List ℕ) → AddsParagraphs h 1 [] old old

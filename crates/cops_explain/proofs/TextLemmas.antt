@@ -3,7 +3,7 @@ use Rattle.std.proofs.Common.{◌≡◌, ◌∙◌, ◌≤◌, ◌-◌, ℕ, Lis
 use Rattle.std.specs.Prelude.{OnOk, codes, if◌then◌else◌, ◌==◌}
 use Rattle.cops_types.specs.declared.op.OpName.{OpName}
 use Rattle.cops_types.specs.Histories.{Sessions}
-use Rattle.cops_explain.specs.Operations.{told_lines}
+use Rattle.cops_explain.specs.Operations.{reported_lines}
 use Rattle.cops_explain.specs.Paragraphs.{bearers_text, more_others, others_text}
 use Rattle.cops_explain.specs.declared.limits.TheConstants.{MOST_OTHERS}
 
@@ -30,8 +30,8 @@ none_more : (n : ℕ) → n ≡ 0 → more_others n ≡ []
 none_more n none = rw none refl
 
 -- few puts with a version are all listed
-pub few_others : (h : Sessions) (others : List OpName) → length others ≤ MOST_OTHERS → others_text h others ≡ told_lines h others
+pub few_others : (h : Sessions) (others : List OpName) → length others ≤ MOST_OTHERS → others_text h others ≡ reported_lines h others
 few_others h others few =
-    ap (λ (t : List ℕ). t ++ more_others (length others - MOST_OTHERS)) (ap (told_lines h) (take_all MOST_OTHERS others few))
-    ∙ ap (λ (t : List ℕ). told_lines h others ++ t) (none_more (length others - MOST_OTHERS) (omega (arith, few)))
-    ∙ append-nil (told_lines h others)
+    ap (λ (t : List ℕ). t ++ more_others (length others - MOST_OTHERS)) (ap (reported_lines h) (take_all MOST_OTHERS others few))
+    ∙ ap (λ (t : List ℕ). reported_lines h others ++ t) (none_more (length others - MOST_OTHERS) (omega (arith, few)))
+    ∙ append-nil (reported_lines h others)

@@ -18,12 +18,12 @@ use Rattle.cops_explain.specs.Paragraphs.{IsParagraph}
 -- a paragraph for each fault, numbered from this number on
 abbrev pub AreParagraphs : Sessions → ℕ → List Fault → List ℕ → Type 0
 AreParagraphs h number [] text = text ≡ []
-AreParagraphs h number (fault ∷ faults) text = (told : List ℕ) × (rest : List ℕ)
-    × IsParagraph h number fault told × (text ≡ told ++ rest) × AreParagraphs h (number + 1) faults rest
+AreParagraphs h number (fault ∷ faults) text = (reported : List ℕ) × (rest : List ℕ)
+    × IsParagraph h number fault reported × (text ≡ reported ++ rest) × AreParagraphs h (number + 1) faults rest
 
 -- the text gains the paragraphs of faults
 abbrev pub AddsParagraphs : Sessions → ℕ → List Fault → List ℕ → List ℕ → Type 0
-AddsParagraphs h number faults old new = (told : List ℕ) × AreParagraphs h number faults told × (new ≡ old ++ told)
+AddsParagraphs h number faults old new = (reported : List ℕ) × AreParagraphs h number faults reported × (new ≡ old ++ reported)
 
 -- a count with its noun, after other words: the noun has an s unless the count is one
 abbrev pub counted : List ℕ → ℕ → List ℕ → List ℕ
@@ -53,25 +53,25 @@ abbrev pub none_text : ℕ → List ℕ
 none_text number = codes "\nthere is no fault " ⧺ decimal number ⧺ codes "\n"
 
 -- the paragraph of the fault with a number, or that there is none
-abbrev pub TellsOne : Sessions → ℕ → Option Fault → List ℕ → Type 0
-TellsOne h number (Some fault) text = IsParagraph h number fault text
-TellsOne h number None text = text ≡ none_text number
+abbrev pub ReportsOne : Sessions → ℕ → Option Fault → List ℕ → Type 0
+ReportsOne h number (Some fault) text = IsParagraph h number fault text
+ReportsOne h number None text = text ≡ none_text number
 
 -- the explanation of the faults that are asked for
-abbrev pub TellsAsked : Sessions → List Fault → Selection → List ℕ → Type 0
-TellsAsked h faults First text = (told : List ℕ)
-    × AreParagraphs h 1 (take FIRST_FAULTS faults) told × (text ≡ told ++ more_text (length faults - FIRST_FAULTS))
-TellsAsked h faults All text = AreParagraphs h 1 faults text
-TellsAsked h faults (One number) text = TellsOne h number (fault_of_number faults number) text
+abbrev pub ReportsAsked : Sessions → List Fault → Selection → List ℕ → Type 0
+ReportsAsked h faults First text = (reported : List ℕ)
+    × AreParagraphs h 1 (take FIRST_FAULTS faults) reported × (text ≡ reported ++ more_text (length faults - FIRST_FAULTS))
+ReportsAsked h faults All text = AreParagraphs h 1 faults text
+ReportsAsked h faults (One number) text = ReportsOne h number (fault_of_number faults number) text
 
 -- the text gains the explanation of the faults that are asked for
 abbrev pub AddsAsked : Sessions → List Fault → Selection → List ℕ → List ℕ → Type 0
-AddsAsked h faults asked old new = (told : List ℕ) × TellsAsked h faults asked told × (new ≡ old ++ told)
+AddsAsked h faults asked old new = (reported : List ℕ) × ReportsAsked h faults asked reported × (new ≡ old ++ reported)
 
 -- for an accepted history the line of the report; otherwise the numbers of operations, puts and faults, the explanation of the faults that are asked
 -- for, and the classes that were not looked for
 abbrev pub IsExplained : Sessions → Verdict → Selection → List ℕ → Type 0
 IsExplained h (Accepted puts) asked text = text ≡ accepted_line (count_of h) (put_count h)
-IsExplained h (Refused faults) asked text = (told : List ℕ)
-    × TellsAsked h (faults_of faults) asked told
-    × (text ≡ first_line (count_of h) (put_count h) (length (faults_of faults)) ⧺ told ⧺ later_text faults)
+IsExplained h (Refused faults) asked text = (reported : List ℕ)
+    × ReportsAsked h (faults_of faults) asked reported
+    × (text ≡ first_line (count_of h) (put_count h) (length (faults_of faults)) ⧺ reported ⧺ later_text faults)

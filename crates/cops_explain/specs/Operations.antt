@@ -15,26 +15,26 @@ abbrev pub deletion_text : List ℕ → List ℕ → ℕ → List ℕ
 deletion_text word key version = word ⧺ bytes_text key ⧺ codes " at " ⧺ version_text version
 
 -- what an operation did
-abbrev pub did_text : Option Operation → List ℕ
-did_text (Some (write key (Some value) version)) = pair_text (codes "put ") key value version
-did_text (Some (write key None version)) = deletion_text (codes "deleted ") key version
-did_text (Some (read key (Some value) version)) = pair_text (codes "got ") key value version
-did_text (Some (read key None version)) = deletion_text (codes "found a deletion of ") key version
-did_text (Some (missed key)) = codes "got nothing at " ⧺ bytes_text key
-did_text None = []
+abbrev pub operation_text : Option Operation → List ℕ
+operation_text (Some (write key (Some value) version)) = pair_text (codes "put ") key value version
+operation_text (Some (write key None version)) = deletion_text (codes "deleted ") key version
+operation_text (Some (read key (Some value) version)) = pair_text (codes "got ") key value version
+operation_text (Some (read key None version)) = deletion_text (codes "found a deletion of ") key version
+operation_text (Some (missed key)) = codes "got nothing at " ⧺ bytes_text key
+operation_text None = []
 
 -- client 0 put x=1 at 1.0
 abbrev pub act_text : Sessions → OpName → List ℕ
-act_text h name = codes "client " ⧺ decimal name.client ⧺ codes " " ⧺ did_text (op_at h name)
+act_text h name = codes "client " ⧺ decimal name.client ⧺ codes " " ⧺ operation_text (op_at h name)
 
 -- (0,0) client 0 put x=1 at 1.0
-abbrev pub told_text : Sessions → OpName → List ℕ
-told_text h name = name_text name ⧺ codes " " ⧺ act_text h name
+abbrev pub reported_text : Sessions → OpName → List ℕ
+reported_text h name = name_text name ⧺ codes " " ⧺ act_text h name
 
 -- the text of an operation, in a line of its own
-abbrev pub told_line : Sessions → OpName → List ℕ
-told_line h name = told_text h name ⧺ codes "\n"
+abbrev pub reported_line : Sessions → OpName → List ℕ
+reported_line h name = reported_text h name ⧺ codes "\n"
 
 -- a line for each operation
-abbrev pub told_lines : Sessions → List OpName → List ℕ
-told_lines h names = flat_map (told_line h) names
+abbrev pub reported_lines : Sessions → List OpName → List ℕ
+reported_lines h names = flat_map (reported_line h) names

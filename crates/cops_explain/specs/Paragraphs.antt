@@ -10,7 +10,7 @@ use Rattle.cops_explain.specs.declared.causes.TheConstants.{DOUBLED, NO_SOURCE, 
 use Rattle.cops_explain.specs.declared.limits.TheConstants.{MOST_OTHERS}
 use Rattle.cops_audit.specs.declared.fault.Fault.{Fault}
 use Rattle.cops_audit.specs.declared.fault.Fault.TheVariants.{Doubled, NoSource, NotAbove, Stale}
-use Rattle.cops_explain.specs.Operations.{act_text, told_line, told_lines, told_text}
+use Rattle.cops_explain.specs.Operations.{act_text, reported_line, reported_lines, reported_text}
 use Rattle.cops_explain.specs.Others.{AreOthers}
 use Rattle.cops_explain.specs.Steps.{chain_text, known_by}
 
@@ -20,7 +20,7 @@ title number class name = codes "\nfault " ⧺ decimal number ⧺ codes ": " ⧺
 
 -- the title, the operation, and what is said about it
 abbrev pub fault_head : Sessions → ℕ → List ℕ → OpName → List ℕ → List ℕ
-fault_head h number class name words = title number class name ⧺ told_line h name ⧺ words
+fault_head h number class name words = title number class name ⧺ reported_line h name ⧺ words
 
 -- how many more puts have a version, if any do
 abbrev pub more_others : ℕ → List ℕ
@@ -29,7 +29,7 @@ more_others (suc more) = codes "and " ⧺ decimal (suc more) ⧺ codes " more of
 
 -- a line for each of the first puts with a version, and how many more there are
 abbrev pub others_text : Sessions → List OpName → List ℕ
-others_text h others = told_lines h (take MOST_OTHERS others) ⧺ more_others (length others - MOST_OTHERS)
+others_text h others = reported_lines h (take MOST_OTHERS others) ⧺ more_others (length others - MOST_OTHERS)
 
 -- a put, and the others with its version
 abbrev pub doubled_text : Sessions → ℕ → OpName → List OpName → List ℕ
@@ -50,7 +50,7 @@ no_source_text h number name bearers =
 abbrev pub not_above_text : Sessions → ℕ → ANotAbove → List ℕ
 not_above_text h number fault =
     fault_head h number (codes "not above") fault.op (codes "its version is not above that of what its client did before:\n")
-    ⧺ told_line h fault.earlier ⧺ NOT_ABOVE.now
+    ⧺ reported_line h fault.earlier ⧺ NOT_ABOVE.now
 
 -- a get, and the newer put that it had to know of
 abbrev pub stale_head : Sessions → ℕ → AStale → List ℕ
@@ -80,7 +80,7 @@ place_text h fault by = returned_text h fault.op ⧺ known_text fault by
 
 -- what it should have returned
 abbrev pub right_text : Sessions → OpName → List ℕ
-right_text h newer = codes "should have returned: " ⧺ told_text h newer ⧺ codes ", or a newer put\n"
+right_text h newer = codes "should have returned: " ⧺ reported_text h newer ⧺ codes ", or a newer put\n"
 
 -- what it should have returned, where to look, and what usually causes the fault
 abbrev pub stale_end : Sessions → AStale → List OpName → List ℕ
@@ -99,4 +99,4 @@ IsParagraph h number (Stale fault) text = (chain : List OpName) × IsFirstChain 
 
 -- the text gains the paragraph of one fault
 abbrev pub AddsParagraph : Sessions → ℕ → Fault → List ℕ → List ℕ → Type 0
-AddsParagraph h number fault old new = (told : List ℕ) × IsParagraph h number fault told × (new ≡ old ++ told)
+AddsParagraph h number fault old new = (reported : List ℕ) × IsParagraph h number fault reported × (new ≡ old ++ reported)

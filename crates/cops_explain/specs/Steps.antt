@@ -3,7 +3,7 @@ use Rattle.std.specs.Prelude.{ℕ, List, [], ◌∷◌, ◌==◌, if◌then◌el
 use Rattle.cops_types.specs.declared.op.OpName.{OpName}
 use Rattle.cops_types.specs.Histories.{Sessions}
 use Rattle.cops_types.specs.Texts.{◌⧺◌}
-use Rattle.cops_explain.specs.Operations.{told_line, told_text}
+use Rattle.cops_explain.specs.Operations.{reported_line, reported_text}
 
 -- the kind of a step: where no two puts have the same version and puts are above what their clients did before, no get returns a later put of its
 -- client
@@ -12,7 +12,7 @@ step_text from to = if from.client == to.client then codes ": the same client's 
 
 -- the operation to which a step leads, with the kind of the step
 abbrev pub step_line : Sessions → OpName → OpName → List ℕ
-step_line h from to = told_text h to ⧺ step_text from to
+step_line h from to = reported_text h to ⧺ step_text from to
 
 -- a line for each operation to which the steps lead, one after the other
 abbrev pub step_lines : Sessions → OpName → List OpName → List ℕ
@@ -22,7 +22,7 @@ step_lines h from (to ∷ rest) = step_line h from to ⧺ step_lines h to rest
 -- a line for each operation of a chain
 abbrev pub chain_text : Sessions → List OpName → List ℕ
 chain_text h [] = []
-chain_text h (first ∷ rest) = told_line h first ⧺ step_lines h first rest
+chain_text h (first ∷ rest) = reported_line h first ⧺ step_lines h first rest
 
 -- the operation by which the client of a chain's last operation came to know of its first one: the one to which the last step between two clients
 -- leads, or the first operation itself where there is no such step

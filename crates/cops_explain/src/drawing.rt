@@ -4,9 +4,9 @@ ghost use Rattle.cops_explain.specs.Pictures.{Extends};
 ghost use Rattle.cops_explain.specs.declared.sizes.TheConstants.{MAX_COLUMNS};
 
 use crate::columns::{Column, Role};
-use crate::layout::{Card, Place, lane_top};
+use crate::layout::{Card, CardPlace, lane_top};
 use crate::lines::{act_line, left_out_line, name_line, value_line};
-use crate::operation::push_told;
+use crate::operation::push_reported;
 use crate::sentence::sentence;
 use crate::sizes::{
     ACT_BASE, CARD_HEIGHT, CORNER, HEAD_BASE, LANE_BASE, LANE_LEFT, MARGIN, NAME_BASE,
@@ -28,7 +28,7 @@ fn class_of(role: Role) -> &'static str {
 }
 
 /// Writes the end of the first tag, with the size of the picture in pixels, and the parts that every picture has.
-pub fn push_page(out: &mut String, width: u32, height: u32) -> Result<(), AllocError>
+pub fn push_page(out: &mut String, width: u32, maximum: u32) -> Result<(), AllocError>
     ensures { OnOk result (Extends (string_bytes out.old) (string_bytes out.new)) }
 {
     write!(
@@ -140,7 +140,7 @@ fn push_card(
     };
     push_start(out, class_of(role), card)?;
     out.push_str("<title>")?;
-    push_told(out, history, name)?;
+    push_reported(out, history, name)?;
     out.push_str("</title>")?;
     push_border(out, card)?;
     push_lines(alloc, out, card.width, name, op)?;
@@ -189,7 +189,7 @@ pub fn push_cards(
     alloc: Global,
     out: &mut String,
     history: &History,
-    places: &[Place],
+    places: &[CardPlace],
 ) -> Result<(), AllocError>
     ensures { OnOk result (Extends (string_bytes out.old) (string_bytes out.new)) }
 {

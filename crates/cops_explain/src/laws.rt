@@ -10,8 +10,8 @@ ghost use Rattle.cops_explain.specs.Steps.{known_by};
 
 /// A law of the definitions: a history has one explanation for each selection of faults.
 pub fn one_explanation()
-    ensures { (h : Sessions) (verdict other : AVerdict) (asked : ASelection) (text told : List ℕ) →
-        IsVerdict h verdict → IsVerdict h other → IsExplained h verdict asked text → IsExplained h other asked told → text ≡ told }
+    ensures { (h : Sessions) (verdict other : AVerdict) (asked : ASelection) (text reported : List ℕ) →
+        IsVerdict h verdict → IsVerdict h other → IsExplained h verdict asked text → IsExplained h other asked reported → text ≡ reported }
 {}
 
 /// A law of the definitions: the operation by which the client of a chain's last operation came to know of its first

@@ -73,7 +73,7 @@ impl Card {
 
 /// A column, and its card.
 #[derive(Clone, Copy, Debug, PartialEq, Eq)]
-pub struct Place {
+pub struct CardPlace {
     pub column: Column,
     pub card: Card,
 }
@@ -119,7 +119,7 @@ pub fn places_of(
     columns: &[Column],
     clients: &[u16],
     width: u32,
-) -> Result<Vec<Place>, AllocError>
+) -> Result<Vec<CardPlace>, AllocError>
     requires width { width ≤ MAX_WIDTH }
     requires columns { length columns.now ≤ MAX_COLUMNS }
     requires clients { length clients.now ≤ MAX_COLUMNS }
@@ -132,7 +132,7 @@ pub fn places_of(
             lane = lane_of(clients, name.client);
         }
         let card = Card::new(width, index, lane);
-        places.push(Place { column, card })?;
+        places.push(CardPlace { column, card })?;
     }
     Ok(places)
 }

@@ -3,7 +3,7 @@ ghost use Rattle.std.specs.Prelude.{◌<◌, ◌^◌, OnOk, string_bytes};
 ghost use Rattle.cops_explain.specs.Pictures.{Extends};
 
 use crate::columns::{Column, Role};
-use crate::layout::{Card, Place};
+use crate::layout::{Card, CardPlace};
 use crate::sizes::{FOOT, RETURN_AT, TURN};
 use std::alloc::AllocError;
 
@@ -41,7 +41,7 @@ fn leads_on(column: Column) -> bool {
 }
 
 /// Draws an arrow from each place to the next one, except from the returned put.
-pub fn push_links(out: &mut String, places: &[Place]) -> Result<(), AllocError>
+pub fn push_links(out: &mut String, places: &[CardPlace]) -> Result<(), AllocError>
     ensures { OnOk result (Extends (string_bytes out.old) (string_bytes out.new)) }
 {
     let mut before: Option<Card> = None;
@@ -81,7 +81,7 @@ fn push_way(out: &mut String, from: Card, to: Card, lowest: u32) -> Result<(), A
 }
 
 /// Draws that line if the first place is a returned put; the get is at the last place.
-pub fn push_return(out: &mut String, places: &[Place], lowest: u32) -> Result<(), AllocError>
+pub fn push_return(out: &mut String, places: &[CardPlace], lowest: u32) -> Result<(), AllocError>
     requires { lowest < 2 ^ 17 }
     ensures { OnOk result (Extends (string_bytes out.old) (string_bytes out.new)) }
 {

@@ -1,7 +1,7 @@
 //! What an operation did, in words.
 ghost use Rattle.std.specs.Prelude.{◌≡◌, ◌++◌, OnOk, string_bytes};
 ghost use Rattle.cops_types.specs.Histories.{op_at};
-ghost use Rattle.cops_explain.specs.Operations.{act_text, deletion_text, did_text, pair_text, told_line, told_lines, told_text};
+ghost use Rattle.cops_explain.specs.Operations.{act_text, deletion_text, operation_text, pair_text, reported_line, reported_lines, reported_text};
 
 use cops_types::{History, Key, OpName, OpRef, Value, Version};
 use cops_wire::show_bytes;
@@ -41,8 +41,8 @@ fn push_deletion(
 
 /// Writes what an operation did: a put or a deletion with its version, or a get with what it returned, or that it found
 /// a deletion or nothing.
-fn push_did(out: &mut String, history: &History, name: OpName) -> Result<(), AllocError>
-    ensures { OnOk result (string_bytes out.new ≡ string_bytes out.old ++ did_text (op_at history.now.sessions name)) }
+fn push_operation(out: &mut String, history: &History, name: OpName) -> Result<(), AllocError>
+    ensures { OnOk result (string_bytes out.new ≡ string_bytes out.old ++ operation_text (op_at history.now.sessions name)) }
 {
     match history.op(name) {
         Some(
@@ -87,28 +87,28 @@ pub fn push_act(out: &mut String, history: &History, name: OpName) -> Result<(),
 {
     let client = name.client;
     write!(out, "client {client} ")?;
-    push_did(out, history, name)
+    push_operation(out, history, name)
 }
 
 /// Writes an operation's name, its client, and what it did.
-pub fn push_told(out: &mut String, history: &History, name: OpName) -> Result<(), AllocError>
-    ensures { OnOk result (string_bytes out.new ≡ string_bytes out.old ++ told_text history.now.sessions name) }
+pub fn push_reported(out: &mut String, history: &History, name: OpName) -> Result<(), AllocError>
+    ensures { OnOk result (string_bytes out.new ≡ string_bytes out.old ++ reported_text history.now.sessions name) }
 {
     write!(out, "{name} ")?;
     push_act(out, history, name)
 }
 
-/// Writes the text of `push_told` in a line of its own.
+/// Writes the text of `push_reported` in a line of its own.
 pub fn push_line(out: &mut String, history: &History, name: OpName) -> Result<(), AllocError>
-    ensures { OnOk result (string_bytes out.new ≡ string_bytes out.old ++ told_line history.now.sessions name) }
+    ensures { OnOk result (string_bytes out.new ≡ string_bytes out.old ++ reported_line history.now.sessions name) }
 {
-    push_told(out, history, name)?;
+    push_reported(out, history, name)?;
     out.push_str("\n")
 }
 
 /// Writes a line for each operation.
 pub fn push_lines(out: &mut String, history: &History, names: &[OpName]) -> Result<(), AllocError>
-    ensures { OnOk result (string_bytes out.new ≡ string_bytes out.old ++ told_lines history.now.sessions names.now) }
+    ensures { OnOk result (string_bytes out.new ≡ string_bytes out.old ++ reported_lines history.now.sessions names.now) }
 {
     for name in names {
         push_line(out, history, *name)?;

@@ -8,7 +8,7 @@ ghost use Rattle.cops_explain.specs.Paragraphs.{known_text, place_text, returned
 
 use crate::causes;
 use crate::limits::MOST_OTHERS;
-use crate::operation::{push_act, push_line, push_lines, push_told};
+use crate::operation::{push_act, push_line, push_lines, push_reported};
 use crate::others::others;
 use crate::steps::{known_by, push_chain};
 use cops_audit::{Fault, NotAbove, Stale};
@@ -193,7 +193,7 @@ fn push_right(out: &mut String, history: &History, newer: OpName) -> Result<(), 
     ensures { OnOk result (string_bytes out.new ≡ string_bytes out.old ++ right_text history.now.sessions newer) }
 {
     out.push_str("should have returned: ")?;
-    push_told(out, history, newer)?;
+    push_reported(out, history, newer)?;
     out.push_str(", or a newer put\n")
 }
 
@@ -324,8 +324,8 @@ pub fn push_paragraph(
     requires fault { IsFault history.now.sessions fault }
     ensures { OnOk result (AddsParagraph history.now.sessions number fault out.old.items out.new.items) }
 {
-    let mut told = String::with_capacity(alloc, USUAL_LEN)?;
-    push_by_class(alloc, &mut told, history, puts, number, fault)?;
-    out.extend_from_slice(told.as_bytes())?;
+    let mut reported = String::with_capacity(alloc, USUAL_LEN)?;
+    push_by_class(alloc, &mut reported, history, puts, number, fault)?;
+    out.extend_from_slice(reported.as_bytes())?;
     Ok(())
 }

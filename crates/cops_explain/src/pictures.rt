@@ -6,7 +6,7 @@ ghost use Rattle.cops_explain.specs.declared.sizes.TheConstants.{MAX_COLUMNS};
 
 use crate::columns::{Column, columns_of};
 use crate::drawing::{push_cards, push_head, push_lanes, push_page};
-use crate::layout::{Place, clients_of, lane_top, places_of};
+use crate::layout::{CardPlace, clients_of, lane_top, places_of};
 use crate::lines::card_width;
 use crate::links::{push_links, push_return};
 use crate::sizes::{CARD_HEIGHT, FIRST_LEFT, FOOT, MARGIN, MIN_RIGHT};
@@ -15,7 +15,7 @@ use cops_types::{History, Memory};
 use std::alloc::{AllocError, Global};
 
 /// The right end of the last card.
-fn right_of(places: &[Place]) -> u32
+fn right_of(places: &[CardPlace]) -> u32
     ensures { result < 2 ^ 17 }
 {
     match places.last() {
@@ -28,7 +28,7 @@ fn right_of(places: &[Place]) -> u32
 fn push_arrows(
     out: &mut String,
     fault: Fault,
-    places: &[Place],
+    places: &[CardPlace],
     lowest: u32,
 ) -> Result<(), AllocError>
     requires { lowest < 2 ^ 17 }

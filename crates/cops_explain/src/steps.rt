@@ -2,7 +2,7 @@
 ghost use Rattle.std.specs.Prelude.{◌≡◌, ◌==◌, ◌++◌, if◌then◌else◌, OnOk, string_bytes};
 ghost use Rattle.cops_explain.specs.Steps.{chain_text, known_by, step_line, step_lines};
 
-use crate::operation::{push_line, push_told};
+use crate::operation::{push_line, push_reported};
 use cops_types::{History, OpName};
 use std::alloc::AllocError;
 
@@ -15,7 +15,7 @@ fn push_step(
 ) -> Result<(), AllocError>
     ensures { OnOk result (string_bytes out.new ≡ string_bytes out.old ++ step_line history.now.sessions from to) }
 {
-    push_told(out, history, to)?;
+    push_reported(out, history, to)?;
     if from.client == to.client {
         out.push_str(": the same client's later operation\n")
     } else {

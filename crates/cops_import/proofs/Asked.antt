@@ -5,8 +5,8 @@ use Rattle.serde_json.specs.View.{items_view}
 use Rattle.serde_json.specs.declared.value.Value.{Value}
 use Rattle.cops_types.specs.declared.op.Op.{Op}
 use Rattle.cops_types.specs.declared.op.Op.TheVariants as op
-use Rattle.cops_import.specs.declared.fault.LineFault.{LineFault}
-use Rattle.cops_import.specs.declared.fault.LineFault.TheVariants.{NoJson, NoClient, NoOperation, BothOperations, BadKey, BadValue, BadVersion, TooManyClients, TooManyOperations}
+use Rattle.cops_import.specs.declared.fault.JsonLineFault.{JsonLineFault}
+use Rattle.cops_import.specs.declared.fault.JsonLineFault.TheVariants.{NoJson, NoClient, NoOperation, BothOperations, BadKey, BadValue, BadVersion, TooManyClients, TooManyOperations}
 use Rattle.cops_fields.specs.declared.unread.Unread.{Unread}
 use Rattle.cops_fields.specs.declared.unread.Unread.TheVariants.{Memory, Form}
 use Rattle.cops_import.specs.declared.line.Untold.{Untold}
@@ -14,20 +14,20 @@ use Rattle.cops_import.specs.declared.line.Untold.TheVariants.{Fault, Memory as 
 use Rattle.cops_import.specs.declared.line.Kind.{Kind}
 use Rattle.cops_import.specs.declared.line.Kind.TheVariants.{Put, Get}
 use Rattle.cops_fields.specs.Json.{number_json}
-use Rattle.cops_import.specs.Line.{AsksKey, HasName, IsAsked, IsJson, IsWrong, IsWrongIn, TellsOp}
-use Rattle.cops_import.specs.Asked.{IsKeyJson, IsWrongOf, TellsKind}
+use Rattle.cops_import.specs.Line.{AsksKey, HasName, IsAsked, IsJson, IsWrong, IsWrongIn, ReportsOp}
+use Rattle.cops_import.specs.Asked.{IsKeyJson, IsWrongOf, ReportsKind}
 
 asks : (d : Data) (kind : Kind) (at : Data) (key : List ℕ) → IsAsked d kind at → IsKeyJson at key → AsksKey d kind key
 asks d kind at key asked is = (subst (λ (x : Data). IsAsked d kind x) is.0 asked, is.1)
 
-pub tells_of : (d : Data) (kind : Kind) (at : Data) (o : Op) → IsAsked d kind at → TellsKind d kind at o → TellsOp d o
-tells_of d Put at (op.Put key value version) asked told = (asks d Put at key asked told.0, told.1, told.2)
-tells_of d Put at _ asked told = absurd told
-tells_of d Get at (op.Got key value version) asked told = (asks d Get at key asked told.0, told.1, told.2)
-tells_of d Get at (op.Missed key) asked told = (asks d Get at key asked told.0, told.1)
-tells_of d Get at _ asked told = absurd told
+pub reports_of : (d : Data) (kind : Kind) (at : Data) (o : Op) → IsAsked d kind at → ReportsKind d kind at o → ReportsOp d o
+reports_of d Put at (op.Put key value version) asked reported = (asks d Put at key asked reported.0, reported.1, reported.2)
+reports_of d Put at _ asked reported = absurd reported
+reports_of d Get at (op.Got key value version) asked reported = (asks d Get at key asked reported.0, reported.1, reported.2)
+reports_of d Get at (op.Missed key) asked reported = (asks d Get at key asked reported.0, reported.1)
+reports_of d Get at _ asked reported = absurd reported
 
-pub wrong_of : (d : Data) (kind : Kind) (at : Data) (fault : LineFault) → HasName d → IsAsked d kind at → IsWrongOf d kind at fault → IsWrong d fault
+pub wrong_of : (d : Data) (kind : Kind) (at : Data) (fault : JsonLineFault) → HasName d → IsAsked d kind at → IsWrongOf d kind at fault → IsWrong d fault
 wrong_of d kind at NoJson name asked wrong = absurd wrong
 wrong_of d kind at NoClient name asked wrong = absurd wrong
 wrong_of d kind at NoOperation name asked wrong = absurd wrong
@@ -39,12 +39,12 @@ wrong_of d kind at TooManyClients name asked wrong = absurd wrong
 wrong_of d kind at TooManyOperations name asked wrong = absurd wrong
 
 -- if a member is not read because of its form, the fault is the named one
-pub wrong_unread : (P : LineFault → Type 0) (named fault : LineFault) (unread : Unread) (r : Untold) → (unread ≡ Memory → r ≡ OutOfMemory) → (unread ≡ Form → r ≡ Fault named) → (unread ≡ Form → P named) → r ≡ Fault fault → P fault
+pub wrong_unread : (P : JsonLineFault → Type 0) (named fault : JsonLineFault) (unread : Unread) (r : Untold) → (unread ≡ Memory → r ≡ OutOfMemory) → (unread ≡ Form → r ≡ Fault named) → (unread ≡ Form → P named) → r ≡ Fault fault → P fault
 wrong_unread P named fault Memory r memory form wrong e = let m = memory refl in absurd cc
 wrong_unread P named fault Form r memory form wrong e = let f = form refl in let same : named ≡ fault = cc in subst P same (wrong refl)
 
 -- what is wrong with the object of a line is wrong with the line
-pub wrong_in : (line : List ℕ) (d : Data) (fault : LineFault) → IsJson line d → IsWrong d fault → IsWrongIn line fault
+pub wrong_in : (line : List ℕ) (d : Data) (fault : JsonLineFault) → IsJson line d → IsWrong d fault → IsWrongIn line fault
 wrong_in line d NoJson json wrong = absurd wrong
 wrong_in line d NoClient json wrong = (d, json, wrong)
 wrong_in line d NoOperation json wrong = (d, json, wrong)

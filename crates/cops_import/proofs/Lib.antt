@@ -5,4 +5,4 @@ pub mod Records
 pub mod Stops
 pub mod Steps
 pub mod Inputs
-pub mod Telling
+pub mod Reporting

@@ -9,7 +9,7 @@ use Rattle.std.proofs.lemmas.Slice.Eq.{bytes_eq-Decides}
 use Rattle.cops_types.specs.Operations.{operation_of}
 use Rattle.cops_import.specs.Lines.{names_of, record_of}
 use Rattle.cops_import.specs.Names.{number_of, same, with_name}
-use Rattle.cops_import.specs.declared.line.Told.{Told}
+use Rattle.cops_import.specs.declared.line.LineOp.{LineOp}
 
 same_self : (name : List ℕ) → same name name ≡ true
 same_self name = (bytes_eq-Decides name name).1 refl
@@ -43,10 +43,10 @@ among_own names name = elim (cases_Bool (is_among names name)) [
 ]
 
 -- the names after those of these operations were added
-abbrev pub names_after : List (List ℕ) → List Told → List (List ℕ)
-names_after names tolds = fold (λ ns told. with_name ns told.name) names tolds
+abbrev pub names_after : List (List ℕ) → List LineOp → List (List ℕ)
+names_after names tolds = fold (λ ns reported. with_name ns reported.name) names tolds
 
-among_after : (names : List (List ℕ)) (tolds : List Told) (name : List ℕ) → is_among names name ≡ true → is_among (names_after names tolds) name ≡ true
+among_after : (names : List (List ℕ)) (tolds : List LineOp) (name : List ℕ) → is_among names name ≡ true → is_among (names_after names tolds) name ≡ true
 among_after names [] name h = h
 among_after names (t ∷ tolds) name h = among_after (with_name names t.name) tolds name (among_with names name t.name h)
 
@@ -68,7 +68,7 @@ number_with names name other h = go (is_among names other)
     go false = number_before names name other h
 
 -- records keep their clients
-pub records_kept : (names : List (List ℕ)) (tolds : List Told) (other : List ℕ)
+pub records_kept : (names : List (List ℕ)) (tolds : List LineOp) (other : List ℕ)
     → map (record_of (with_name (names_after names tolds) other)) tolds ≡ map (record_of (names_after names tolds)) tolds
 records_kept names [] other = refl
 records_kept names (t ∷ tolds) other =
@@ -95,5 +95,5 @@ number_own names name = elim (cases_Bool (is_among names name)) [
   | inr p ↦ ap (λ (b : Bool). number_of (cond b names (names ++ name ∷ [])) name) p ∙ number_last names name p
 ]
 
-pub names_more : (tolds : List Told) (told : Told) → names_of (tolds ++ told ∷ []) ≡ with_name (names_of tolds) told.name
-names_more tolds told = fold-append (λ (ns : List (List ℕ)) (t : Told). with_name ns t.name) [] tolds (told ∷ [])
+pub names_more : (tolds : List LineOp) (reported : LineOp) → names_of (tolds ++ reported ∷ []) ≡ with_name (names_of tolds) reported.name
+names_more tolds reported = fold-append (λ (ns : List (List ℕ)) (t : LineOp). with_name ns t.name) [] tolds (reported ∷ [])

@@ -12,7 +12,7 @@ use Rattle.cops_types.specs.Histories.{Operation}
 use Rattle.cops_types.specs.Operations.{operation_of}
 use Rattle.cops_types.specs.declared.format.Format.{Format}
 use Rattle.cops_types.specs.declared.format.Format.TheVariants.{One}
-use Rattle.cops_wire.specs.Message.{spelled}
+use Rattle.cops_wire.specs.Message.{encoded}
 use Rattle.cops_wire.specs.Records.{record_message}
 use Rattle.cops_wire.specs.declared.message.Message.TheVariants.{TraceEnd}
 use Rattle.cops_trace.specs.Counts.{ACounts, AreCountsOf, HasTurn, counted, nothing}
@@ -25,8 +25,8 @@ use Rattle.cops_trace.specs.declared.fault.WriteFault.{WriteFault}
 use Rattle.cops_trace.specs.declared.fault.WriteFault.TheVariants as write
 use Rattle.cops_trace.specs.declared.writer.TraceWriter.{TraceWriter}
 use Rattle.cops_trace.proofs.Begun.{add_cut, cut_begun, cut_kept, new_cut, rest_cut}
-use Rattle.cops_trace.proofs.Growth.{IsTrace-grown, IsTrace-none, beginning-grown, beginning-none}
-use Rattle.cops_trace.proofs.Readings.{front_len, text_len}
+use Rattle.cops_trace.proofs.Allocation.{IsTrace-grown, IsTrace-none, beginning-grown, beginning-none}
+use Rattle.cops_trace.proofs.Readings.{prefix_len, text_len}
 use Rattle.cops_trace.proofs.Underway.{counts_grown, counts_none}
 use Rattle.cops_import.specs.Faults.{IsFaultOf, IsTooMany}
 use Rattle.cops_import.specs.Lines.{names_of, record_of, trace_of}
@@ -34,26 +34,26 @@ use Rattle.cops_import.specs.Names.{number_of, with_name}
 use Rattle.cops_import.specs.Underway.{HasLeft, HasTaken, HasWritten, IsStopAtEnd, trace_to}
 use Rattle.cops_import.specs.Writing.{fault_of}
 use Rattle.cops_import.specs.declared.fault.ImportFault.TheVariants.{ReadFailed}
-use Rattle.cops_import.specs.declared.fault.LineFault.TheVariants.{TooManyOperations}
+use Rattle.cops_import.specs.declared.fault.JsonLineFault.TheVariants.{TooManyOperations}
 use Rattle.cops_import.specs.declared.importer.Importer.{Importer}
-use Rattle.cops_import.specs.declared.line.Told.{Told}
+use Rattle.cops_import.specs.declared.line.LineOp.{LineOp}
 use Rattle.cops_import.proofs.Numbering.{names_more, number_own, records_kept}
 
 -- ---- the trace with one more operation
 
-abbrev entry : List Told → Told → ARecord
-entry tolds told = record { client = number_of (names_of tolds) told.name; op = operation_of told.op }
+abbrev entry : List LineOp → LineOp → ARecord
+entry tolds reported = record { client = number_of (names_of tolds) reported.name; op = operation_of reported.op }
 
-pub trace_more : (clients : ℕ) (tolds : List Told) (told : Told) → trace_to clients (tolds ++ told ∷ []) ≡ grown (trace_to clients tolds) (entry tolds told)
-trace_more clients tolds told =
+pub trace_more : (clients : ℕ) (tolds : List LineOp) (reported : LineOp) → trace_to clients (tolds ++ reported ∷ []) ≡ grown (trace_to clients tolds) (entry tolds reported)
+trace_more clients tolds reported =
     let names = names_of tolds in
-    let all = with_name names told.name in
-    let more : map (record_of (names_of (tolds ++ told ∷ []))) (tolds ++ told ∷ []) ≡ map (record_of all) (tolds ++ told ∷ []) =
-    ap (λ (ns : List (List ℕ)). map (record_of ns) (tolds ++ told ∷ [])) (names_more tolds told) in
-    let kept : map (record_of all) tolds ≡ map (record_of names) tolds = records_kept [] tolds told.name in
-    let last : record_of all told ≡ entry tolds told = ap (λ (k : ℕ). record { client = k; op = operation_of told.op }) (number_own names told.name) in
+    let all = with_name names reported.name in
+    let more : map (record_of (names_of (tolds ++ reported ∷ []))) (tolds ++ reported ∷ []) ≡ map (record_of all) (tolds ++ reported ∷ []) =
+    ap (λ (ns : List (List ℕ)). map (record_of ns) (tolds ++ reported ∷ [])) (names_more tolds reported) in
+    let kept : map (record_of all) tolds ≡ map (record_of names) tolds = records_kept [] tolds reported.name in
+    let last : record_of all reported ≡ entry tolds reported = ap (λ (k : ℕ). record { client = k; op = operation_of reported.op }) (number_own names reported.name) in
     ap (λ (rs : List ARecord). record { format = One; clients = clients; records = rs })
-    (more ∙ map-append (record_of all) tolds (told ∷ []) ∙ ap (λ (rs : List ARecord). rs ++ record_of all told ∷ []) kept ∙ ap (λ (r : ARecord). map (record_of names) tolds ++ r ∷ []) last)
+    (more ∙ map-append (record_of all) tolds (reported ∷ []) ∙ ap (λ (rs : List ARecord). rs ++ record_of all reported ∷ []) kept ∙ ap (λ (r : ARecord). map (record_of names) tolds ++ r ∷ []) last)
 
 -- ---- what is written
 
@@ -69,12 +69,12 @@ module _ {W : Type 0} (contents : W → Option (List ℕ)) (from : Counted W) wh
   written_more t old new client op h room is more counts written heard =
       let r : ARecord = record { client = client; op = op } in
       let trace = IsTrace-grown t r h.is_trace (omega (arith, h.counts.clients, room.0)) is (omega (arith, h.counts.next client, room.1)) (omega (arith, h.counts.total, room.2)) in
-      let frame : record_frame old.counts client op ≡ record_text t.records r = ap (λ (i : ℕ). spelled (record_message client i op)) (h.counts.next client) in
+      let frame : record_frame old.counts client op ≡ record_text t.records r = ap (λ (i : ℕ). encoded (record_message client i op)) (h.counts.next client) in
       let same : beginning (grown t r) ≡ beginning t ++ record_frame old.counts client op = beginning-grown t r ∙ ap (λ (l : List ℕ). beginning t ++ l) (sym frame) in
       record {
         is_trace = trace;
         counts = subst (AreCountsOf (grown t r)) (sym counts) (counts_grown t old.counts r h.counts room.0);
-        in_all = omega (arith, written, h.in_all, ap length same, length-append (beginning t) (record_frame old.counts client op), front_len (Some (grown t r)) trace);
+        in_all = omega (arith, written, h.in_all, ap length same, length-append (beginning t) (record_frame old.counts client op), prefix_len (Some (grown t r)) trace);
         appends = appends_more (contents (inner from)) (contents (inner old.writer)) (contents (inner new.writer)) (beginning t) (record_frame old.counts client op) (beginning (grown t r)) h.appends more (sym same);
         heard = heard ∙ h.heard;
       }
@@ -97,19 +97,19 @@ module _ {W : Type 0} (contents : W → Option (List ℕ)) (from : Counted W) wh
       (λ q. subst (λ (n : ℕ). Failed n (failures new.writer)) h.heard (failed q))
 
   -- one more operation was taken
-  pub taken_more : (tolds : List Told) (told : Told) (old new : Importer W) (client : ℕ) → HasTaken contents from tolds old → new.clients ≡ old.clients
-      → new.names ≡ with_name old.names told.name → new.operations ≡ min (old.operations + 1) 18446744073709551615 → client ≡ number_of old.names told.name
-      → HasTurn old.writer.counts client → HasWritten contents from (grown (trace_to old.clients tolds) (record { client = client; op = operation_of told.op })) new.writer
-      → HasTaken contents from (tolds ++ told ∷ []) new
-  taken_more tolds told old new client h clients names operations number room wrote =
+  pub taken_more : (tolds : List LineOp) (reported : LineOp) (old new : Importer W) (client : ℕ) → HasTaken contents from tolds old → new.clients ≡ old.clients
+      → new.names ≡ with_name old.names reported.name → new.operations ≡ min (old.operations + 1) 18446744073709551615 → client ≡ number_of old.names reported.name
+      → HasTurn old.writer.counts client → HasWritten contents from (grown (trace_to old.clients tolds) (record { client = client; op = operation_of reported.op })) new.writer
+      → HasTaken contents from (tolds ++ reported ∷ []) new
+  taken_more tolds reported old new client h clients names operations number room wrote =
       let many : length (trace_to old.clients tolds).records ≡ length tolds = length-map tolds (record_of (names_of tolds)) in
-      let entered : client ≡ number_of (names_of tolds) told.name = number ∙ ap (λ (ns : List (List ℕ)). number_of ns told.name) h.names in
-      let trace : grown (trace_to old.clients tolds) (record { client = client; op = operation_of told.op }) ≡ trace_to new.clients (tolds ++ told ∷ []) =
-      ap (λ (k : ℕ). grown (trace_to old.clients tolds) (record { client = k; op = operation_of told.op })) entered ∙ sym (trace_more old.clients tolds told)
-      ∙ ap (λ (k : ℕ). trace_to k (tolds ++ told ∷ [])) (sym clients) in
+      let entered : client ≡ number_of (names_of tolds) reported.name = number ∙ ap (λ (ns : List (List ℕ)). number_of ns reported.name) h.names in
+      let trace : grown (trace_to old.clients tolds) (record { client = client; op = operation_of reported.op }) ≡ trace_to new.clients (tolds ++ reported ∷ []) =
+      ap (λ (k : ℕ). grown (trace_to old.clients tolds) (record { client = k; op = operation_of reported.op })) entered ∙ sym (trace_more old.clients tolds reported)
+      ∙ ap (λ (k : ℕ). trace_to k (tolds ++ reported ∷ [])) (sym clients) in
       record {
-        names = names ∙ ap (λ (ns : List (List ℕ)). with_name ns told.name) h.names ∙ sym (names_more tolds told);
-        operations = omega (arith, operations, h.operations, length-append tolds (told ∷ []), room.2, h.wrote.counts.total, many);
+        names = names ∙ ap (λ (ns : List (List ℕ)). with_name ns reported.name) h.names ∙ sym (names_more tolds reported);
+        operations = omega (arith, operations, h.operations, length-append tolds (reported ∷ []), room.2, h.wrote.counts.total, many);
         wrote = subst (λ (t : ATrace). HasWritten contents from t new.writer) trace wrote;
       }
 
@@ -132,19 +132,19 @@ module _ {W : Type 0} (contents : W → Option (List ℕ)) (from : Counted W) wh
         wrote = record {
           is_trace = trace;
           counts = subst (AreCountsOf t) (sym counts) (counts_none One i.clients);
-          in_all = omega (arith, written, ap length same, front_len (Some t) trace);
+          in_all = omega (arith, written, ap length same, prefix_len (Some t) trace);
           appends = subst (Appends (contents (inner from)) (contents (inner i.writer.writer))) (sym same) head;
           heard = heard;
         };
       }
 
   end_is : (t : ATrace) (c : ACounts) → AreCountsOf t c → text t ≡ beginning t ++ end_frame c
-  end_is t c counts = ap (λ (n : ℕ). beginning t ++ spelled (TraceEnd n)) (sym counts.total)
+  end_is t c counts = ap (λ (n : ℕ). beginning t ++ encoded (TraceEnd n)) (sym counts.total)
 
-  pub ended_trace : (tolds : List Told) (i : Importer W) → HasTaken contents from tolds i → length i.names ≡ i.clients → IsTrace (trace_of tolds)
+  pub ended_trace : (tolds : List LineOp) (i : Importer W) → HasTaken contents from tolds i → length i.names ≡ i.clients → IsTrace (trace_of tolds)
   ended_trace tolds i h many = subst (λ (k : ℕ). IsTrace (trace_to k tolds)) (sym many ∙ ap length h.names) h.wrote.is_trace
 
-  pub ended_written : (tolds : List Told) (i : Importer W) (w : Counted W) → HasTaken contents from tolds i → length i.names ≡ i.clients
+  pub ended_written : (tolds : List LineOp) (i : Importer W) (w : Counted W) → HasTaken contents from tolds i → length i.names ≡ i.clients
       → Appends (contents (inner i.writer.writer)) (contents (inner w)) (end_frame i.writer.counts) → Appends (contents (inner from)) (contents (inner w)) (text (trace_of tolds))
   ended_written tolds i w h many more =
       let t = trace_to i.clients tolds in
@@ -153,8 +153,8 @@ module _ {W : Type 0} (contents : W → Option (List ℕ)) (from : Counted W) wh
       (sym (end_is t i.writer.counts h.wrote.counts) ∙ all)
 
   -- adding `count` bytes to a cut text does not overflow 64 bits
-  told : (old new : Option (List ℕ)) (before count : ℕ) → IsCutShort old new (before + count) → before + count ≡ more_written before count
-  told old new before count cut = let long = text_len cut.trace cut.is_trace in omega (arith, cut.fewer, long)
+  reported : (old new : Option (List ℕ)) (before count : ℕ) → IsCutShort old new (before + count) → before + count ≡ more_written before count
+  reported old new before count cut = let long = text_len cut.trace cut.is_trace in omega (arith, cut.fewer, long)
 
   end_cut : (t : ATrace) (old : TraceWriter W) (w : Counted W) (e : WriteFault) → HasWritten contents from t old
       → IsUnwritten (end_frame old.counts) old.written (contents (inner old.writer)) (contents (inner w)) e → live.IsCutBy e (contents (inner from)) (contents (inner w))
@@ -162,7 +162,7 @@ module _ {W : Type 0} (contents : W → Option (List ℕ)) (from : Counted W) wh
   end_cut t old w (write.WriteFailed all) h u =
       let cut = rest_cut (contents (inner from)) (contents (inner old.writer)) (contents (inner w)) t (beginning t) (end_frame old.counts) u.0 h.is_trace (end_is t old.counts h.counts) h.appends u.3 u.1 in
       subst (IsCutShort (contents (inner from)) (contents (inner w)))
-      (told (contents (inner from)) (contents (inner w)) (length (beginning t)) u.0 cut ∙ ap (λ (n : ℕ). more_written n u.0) (sym h.in_all) ∙ sym u.2) cut
+      (reported (contents (inner from)) (contents (inner w)) (length (beginning t)) u.0 cut ∙ ap (λ (n : ℕ). more_written n u.0) (sym h.in_all) ∙ sym u.2) cut
 
   -- the end record was not written
   pub left_ended : (t : ATrace) (old : TraceWriter W) (w : Counted W) (e : WriteFault) → HasWritten contents from t old
@@ -170,12 +170,12 @@ module _ {W : Type 0} (contents : W → Option (List ℕ)) (from : Counted W) wh
   left_ended t old w e h unwritten failed = left_of e w (end_cut t old w e h unwritten) (λ q. subst (λ (n : ℕ). Failed n (failures w)) h.heard (failed q))
 
 -- a client without a turn has no room for a record
-pub too_many : (clients : ℕ) (tolds : List Told) (told : Told) (counts : ACounts) (client : ℕ) → AreCountsOf (trace_to clients tolds) counts → client ≡ number_of (names_of tolds) told.name → client < clients
-    → (HasTurn counts client → ⊥) → length (names_of (tolds ++ told ∷ [])) ≤ MAX_CLIENTS → IsTooMany tolds told TooManyOperations
-too_many clients tolds told counts client h number there full few =
+pub too_many : (clients : ℕ) (tolds : List LineOp) (reported : LineOp) (counts : ACounts) (client : ℕ) → AreCountsOf (trace_to clients tolds) counts → client ≡ number_of (names_of tolds) reported.name → client < clients
+    → (HasTurn counts client → ⊥) → length (names_of (tolds ++ reported ∷ [])) ≤ MAX_CLIENTS → IsTooMany tolds reported TooManyOperations
+too_many clients tolds reported counts client h number there full few =
     let many : length (trace_to clients tolds).records ≡ length tolds = length-map tolds (record_of (names_of tolds)) in
-    let same : number_of (names_of (tolds ++ told ∷ [])) told.name ≡ client =
-    ap (λ (ns : List (List ℕ)). number_of ns told.name) (names_more tolds told) ∙ number_own (names_of tolds) told.name ∙ sym number in (
+    let same : number_of (names_of (tolds ++ reported ∷ [])) reported.name ≡ client =
+    ap (λ (ns : List (List ℕ)). number_of ns reported.name) (names_more tolds reported) ∙ number_own (names_of tolds) reported.name ∙ sym number in (
       few,
       λ room.
           let own : turn client (trace_of tolds).records < MAX_CLIENT_OPS = subst (λ (k : ℕ). turn k (trace_of tolds).records < MAX_CLIENT_OPS) same room.0 in
@@ -187,7 +187,7 @@ pub write_says : (clients : ℕ) (bytes : List ℕ) (e : WriteFault) → IsFault
 write_says clients bytes write.Memory = tt
 write_says clients bytes (write.WriteFailed written) = tt
 
-pub write_stops : (clients : ℕ) (tolds : List Told) (e : WriteFault) → IsStopAtEnd clients tolds (fault_of e)
+pub write_stops : (clients : ℕ) (tolds : List LineOp) (e : WriteFault) → IsStopAtEnd clients tolds (fault_of e)
 write_stops clients tolds write.Memory = tt
 write_stops clients tolds (write.WriteFailed written) = tt
 

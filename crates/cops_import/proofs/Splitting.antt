@@ -3,9 +3,9 @@ use Rattle.std.proofs.Common.{◌≡◌, ◌==◌, ℕ, List, [], ◌∷◌, ◌
 use Rattle.std.specs.Prelude.{Option}
 use Rattle.std.proofs.lemmas.List.{append-nil}
 use Rattle.std.proofs.lemmas.List.Splits.{slice_split_at, slice_split_none}
-use Rattle.cops_import.specs.Line.{LineTells}
-use Rattle.cops_import.specs.Lines.{IsWithin, TellAfter, lines, with_told}
-use Rattle.cops_import.specs.declared.line.Told.{Told}
+use Rattle.cops_import.specs.Line.{LineReports}
+use Rattle.cops_import.specs.Lines.{IsWithin, ReportAfter, lines, with_reported}
+use Rattle.cops_import.specs.declared.line.LineOp.{LineOp}
 
 -- the lines of `fed` are `ended`, and then `line`, which may go on
 abbrev pub Splits : List ℕ → List (List ℕ) → List ℕ → Type 0
@@ -33,6 +33,6 @@ split_last fed ended line h within =
     ∙ ap (λ (ls : List (List ℕ)). ended ++ ls) (slice_split_none (λ (b : ℕ). b == 10) line within)
 
 -- the operation of one more line comes last
-pub tell_more : (earlier : List Told) (ls : List (List ℕ)) (tolds : List Told) (line : List ℕ) (told : Option Told) → TellAfter earlier ls tolds → LineTells line told → TellAfter earlier (ls ++ line ∷ []) (with_told tolds told)
-tell_more earlier [] tolds line told h is = (told, is, ap (λ (ts : List Told). with_told ts told) h)
-tell_more earlier (l ∷ ls) tolds line told h is = (h.0, h.1, tell_more (with_told earlier h.0) ls tolds line told h.2 is)
+pub report_more : (earlier : List LineOp) (ls : List (List ℕ)) (tolds : List LineOp) (line : List ℕ) (reported : Option LineOp) → ReportAfter earlier ls tolds → LineReports line reported → ReportAfter earlier (ls ++ line ∷ []) (with_reported tolds reported)
+report_more earlier [] tolds line reported h is = (reported, is, ap (λ (ts : List LineOp). with_reported ts reported) h)
+report_more earlier (l ∷ ls) tolds line reported h is = (h.0, h.1, report_more (with_reported earlier h.0) ls tolds line reported h.2 is)

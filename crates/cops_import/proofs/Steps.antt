@@ -5,25 +5,25 @@ use Rattle.std.proofs.lemmas.List.{length-append}
 use Rattle.std.proofs.lemmas.List.Elements.{All-nil, All-append}
 use Rattle.cops_types.specs.declared.counted.Counted.{Counted}
 use Rattle.cops_import.specs.Faults.{IsFaultOf}
-use Rattle.cops_import.specs.Line.{LineTells}
-use Rattle.cops_import.specs.Lines.{IsWithin, LinesTell, lines, with_told}
+use Rattle.cops_import.specs.Line.{LineReports}
+use Rattle.cops_import.specs.Lines.{IsWithin, LinesReport, lines, with_reported}
 use Rattle.cops_import.specs.Underway.{HasLeft, HasStopped, HasTaken, IsStopAt, IsUnderway, TakesLine}
 use Rattle.cops_import.specs.declared.fault.ImportFault.{ImportFault}
 use Rattle.cops_import.specs.declared.fault.ImportFault.TheVariants.{Endless, Memory}
 use Rattle.cops_import.specs.declared.importer.Importer.{Importer}
-use Rattle.cops_import.specs.declared.line.Told.{Told}
+use Rattle.cops_import.specs.declared.line.LineOp.{LineOp}
 use Rattle.cops_import.proofs.Records.{cut_so_far}
-use Rattle.cops_import.proofs.Splitting.{Splits, split_ended, split_last, split_none, split_part, tell_more}
+use Rattle.cops_import.proofs.Splitting.{Splits, split_ended, split_last, split_none, split_part, report_more}
 use Rattle.cops_import.proofs.Stops.{no_number, stops_here}
 
 module _ {W : Type 0} (contents : W → Option (List ℕ)) (from : Counted W) where
   -- a line feed came
-  pub line_ended : (fed : List ℕ) (old new : Importer W) (told : Option Told) → (u : IsUnderway contents from fed old) → LineTells old.line.items told → HasTaken contents from (with_told u.tolds told) new
+  pub line_ended : (fed : List ℕ) (old new : Importer W) (reported : Option LineOp) → (u : IsUnderway contents from fed old) → LineReports old.line.items reported → HasTaken contents from (with_reported u.tolds reported) new
       → new.line.items ≡ [] → new.ended ≡ old.ended + 1 → IsUnderway contents from (fed ++ 10 ∷ []) new
-  line_ended fed old new told u is taken none next = record {
+  line_ended fed old new reported u is taken none next = record {
     ended = u.ended ++ old.line.items ∷ [];
-    tolds = with_told u.tolds told;
-    tell = tell_more [] u.ended u.tolds old.line.items told u.tell is;
+    tolds = with_reported u.tolds reported;
+    report = report_more [] u.ended u.tolds old.line.items reported u.report is;
     counted = omega (arith, next, u.counted, length-append u.ended (old.line.items ∷ []));
     split = subst (Splits (fed ++ 10 ∷ []) (u.ended ++ old.line.items ∷ [])) (sym none) (split_ended fed u.ended old.line.items u.split u.within);
     within = subst IsWithin (sym none) (All-nil (λ (b : ℕ). (b == 10) ≡ false));
@@ -36,7 +36,7 @@ module _ {W : Type 0} (contents : W → Option (List ℕ)) (from : Counted W) wh
   part_taken fed part old new u items within same taken = record {
     ended = u.ended;
     tolds = u.tolds;
-    tell = u.tell;
+    report = u.report;
     counted = same ∙ u.counted;
     split = subst (Splits (fed ++ part) u.ended) (sym items) (split_part fed u.ended old.line.items part u.split);
     within = subst IsWithin (sym items) (All-append (λ (b : ℕ). (b == 10) ≡ false) old.line.items part u.within within);
@@ -47,7 +47,7 @@ module _ {W : Type 0} (contents : W → Option (List ℕ)) (from : Counted W) wh
   pub stopped_here : (fed : List ℕ) (old : Importer W) (number : ℕ) (e : ImportFault) (w : Counted W) → (u : IsUnderway contents from fed old) → number ≡ old.ended + 1
       → IsStopAt old.clients number u.tolds old.line.items e → HasLeft contents from e w → HasStopped contents from (fed ++ 10 ∷ []) e old.clients w
   stopped_here fed old number e w u next stop left = record {
-    says = stops_here old.clients fed u.ended old.line.items u.tolds number e u.split u.within u.tell (next ∙ ap (λ (n : ℕ). n + 1) u.counted) stop;
+    says = stops_here old.clients fed u.ended old.line.items u.tolds number e u.split u.within u.report (next ∙ ap (λ (n : ℕ). n + 1) u.counted) stop;
     left = left;
   }
 
@@ -78,17 +78,17 @@ module _ {W : Type 0} (contents : W → Option (List ℕ)) (from : Counted W) wh
 
   -- all lines were taken
   pub last_taken : (fed : List ℕ) (old mid : Importer W) → (u : IsUnderway contents from fed old) → TakesLine contents from u.tolds old.line.items mid
-      → (tolds : List Told) × LinesTell (lines fed) tolds × HasTaken contents from tolds mid
+      → (tolds : List LineOp) × LinesReport (lines fed) tolds × HasTaken contents from tolds mid
   last_taken fed old mid u took =
-      let tolds = with_told u.tolds took.0 in
-      (tolds, subst (λ (ls : List (List ℕ)). LinesTell ls tolds) (sym (split_last fed u.ended old.line.items u.split u.within)) (tell_more [] u.ended u.tolds old.line.items took.0 u.tell took.1), took.2)
+      let tolds = with_reported u.tolds took.0 in
+      (tolds, subst (λ (ls : List (List ℕ)). LinesReport ls tolds) (sym (split_last fed u.ended old.line.items u.split u.within)) (report_more [] u.ended u.tolds old.line.items took.0 u.report took.1), took.2)
 
   -- nothing came yet
   pub underway_none : (i : Importer W) → HasTaken contents from [] i → i.line.items ≡ [] → i.ended ≡ 0 → IsUnderway contents from [] i
   underway_none i taken none ended = record {
     ended = [];
     tolds = [];
-    tell = refl;
+    report = refl;
     counted = ended;
     split = subst (Splits [] []) (sym none) split_none;
     within = subst IsWithin (sym none) (All-nil (λ (b : ℕ). (b == 10) ≡ false));

@@ -4,39 +4,39 @@ use Rattle.cops_types.specs.Failures.{Failed}
 use Rattle.cops_types.specs.declared.limits.TheConstants.{MAX_CLIENTS, MAX_CLIENT_OPS, MAX_OPS}
 use Rattle.cops_trace.specs.Live.{IsCutShort}
 use Rattle.cops_trace.specs.Text.{turn}
-use Rattle.cops_import.specs.Line.{IsFaulty, LineTells}
-use Rattle.cops_import.specs.Lines.{LinesTell, lines, names_of, trace_of}
+use Rattle.cops_import.specs.Line.{IsFaulty, LineReports}
+use Rattle.cops_import.specs.Lines.{LinesReport, lines, names_of, trace_of}
 use Rattle.cops_import.specs.Names.{number_of}
 use Rattle.cops_import.specs.declared.fault.ImportFault.{ImportFault}
 use Rattle.cops_import.specs.declared.fault.ImportFault.TheVariants.{Memory, Changed, Endless, Line, ReadFailed, WriteFailed}
-use Rattle.cops_import.specs.declared.fault.LineFault.{LineFault}
-use Rattle.cops_import.specs.declared.fault.LineFault.TheVariants.{TooManyClients, TooManyOperations}
-use Rattle.cops_import.specs.declared.line.Told.{Told}
+use Rattle.cops_import.specs.declared.fault.JsonLineFault.{JsonLineFault}
+use Rattle.cops_import.specs.declared.fault.JsonLineFault.TheVariants.{TooManyClients, TooManyOperations}
+use Rattle.cops_import.specs.declared.line.LineOp.{LineOp}
 
 -- after these operations the client may have one record more, and so may the whole trace
-abbrev pub HasRoomAfter : List Told → ℕ → Type 0
+abbrev pub HasRoomAfter : List LineOp → ℕ → Type 0
 HasRoomAfter tolds client = (turn client (trace_of tolds).records < MAX_CLIENT_OPS) × (length tolds < MAX_OPS)
 
 -- the next operation exceeds a limit after these
-abbrev pub IsTooMany : List Told → Told → LineFault → Type 0
-IsTooMany tolds told TooManyClients = MAX_CLIENTS < length (names_of (tolds ++ told ∷ []))
-IsTooMany tolds told TooManyOperations =
-    (length (names_of (tolds ++ told ∷ [])) ≤ MAX_CLIENTS) × (HasRoomAfter tolds (number_of (names_of (tolds ++ told ∷ [])) told.name) → ⊥)
-IsTooMany tolds told _ = ⊥
+abbrev pub IsTooMany : List LineOp → LineOp → JsonLineFault → Type 0
+IsTooMany tolds reported TooManyClients = MAX_CLIENTS < length (names_of (tolds ++ reported ∷ []))
+IsTooMany tolds reported TooManyOperations =
+    (length (names_of (tolds ++ reported ∷ [])) ≤ MAX_CLIENTS) × (HasRoomAfter tolds (number_of (names_of (tolds ++ reported ∷ [])) reported.name) → ⊥)
+IsTooMany tolds reported _ = ⊥
 
 -- what is wrong with a line after lines with these operations: the line itself is faulty, or its operation exceeds a limit
-abbrev pub IsFaultyAfter : List Told → List ℕ → LineFault → Type 0
-IsFaultyAfter tolds line fault = IsFaulty line fault ⊎ ((told : Told) × LineTells line (Some told) × IsTooMany tolds told fault)
+abbrev pub IsFaultyAfter : List LineOp → List ℕ → JsonLineFault → Type 0
+IsFaultyAfter tolds line fault = IsFaulty line fault ⊎ ((reported : LineOp) × LineReports line (Some reported) × IsTooMany tolds reported fault)
 
 -- the first wrong line, counted from 1
-pub record IsFirstFaulty (bytes : List ℕ) (number : ℕ) (fault : LineFault) : Type 0 where
+pub record IsFirstFaulty (bytes : List ℕ) (number : ℕ) (fault : JsonLineFault) : Type 0 where
   pub before : List (List ℕ)
   pub line : List ℕ
   pub after : List (List ℕ)
   pub split : lines bytes ≡ before ++ line ∷ after
   pub counted : number ≡ length before + 1
-  pub tolds : List Told
-  pub tell : LinesTell before tolds
+  pub tolds : List LineOp
+  pub report : LinesReport before tolds
   pub wrong : IsFaultyAfter tolds line fault
 
 -- a prefix of the lines names more than `clients` clients
@@ -44,13 +44,13 @@ pub record NamesMore (clients : ℕ) (bytes : List ℕ) : Type 0 where
   pub first : List (List ℕ)
   pub rest : List (List ℕ)
   pub split : lines bytes ≡ first ++ rest
-  pub tolds : List Told
-  pub tell : LinesTell first tolds
+  pub tolds : List LineOp
+  pub report : LinesReport first tolds
   pub more : clients < length (names_of tolds)
 
 -- all lines together do not name exactly `clients` clients
 abbrev pub NamesOthers : ℕ → List ℕ → Type 0
-NamesOthers clients bytes = (tolds : List Told) × LinesTell (lines bytes) tolds × (length (names_of tolds) ≢ clients)
+NamesOthers clients bytes = (tolds : List LineOp) × LinesReport (lines bytes) tolds × (length (names_of tolds) ≢ clients)
 
 -- what a fault says of the whole text, where the caller said that it names `clients` clients
 abbrev pub IsFaultOf : ℕ → List ℕ → ImportFault → Type 0

@@ -12,11 +12,11 @@ use Rattle.cops_types.specs.Version.{IsVersion, clock_of, node_of}
 use Rattle.cops_types.specs.Texts.{version_text}
 use Rattle.cops_types.specs.declared.op.Op.{Op}
 use Rattle.cops_types.specs.declared.op.Op.TheVariants as op
-use Rattle.cops_import.specs.declared.fault.LineFault.{LineFault}
-use Rattle.cops_import.specs.declared.fault.LineFault.TheVariants.{NoJson, NoClient, NoOperation, BothOperations, BadKey, BadValue, BadVersion}
+use Rattle.cops_import.specs.declared.fault.JsonLineFault.{JsonLineFault}
+use Rattle.cops_import.specs.declared.fault.JsonLineFault.TheVariants.{NoJson, NoClient, NoOperation, BothOperations, BadKey, BadValue, BadVersion}
 use Rattle.cops_import.specs.declared.line.Kind.{Kind}
 use Rattle.cops_import.specs.declared.line.Kind.TheVariants.{Put, Get}
-use Rattle.cops_import.specs.declared.line.Told.{Told}
+use Rattle.cops_import.specs.declared.line.LineOp.{LineOp}
 
 -- ---- a line's bytes
 
@@ -41,8 +41,8 @@ pair_json a b = array (item (number_json a) (item (number_json b) no_items))
 abbrev pub IsNameJson : List ℕ → Data → Type 0
 IsNameJson name d = (d ≡ text_json name) ⊎ ((n : ℕ) × (d ≡ number_json n) × (name ≡ decimal n))
 
-abbrev pub TellsName : Data → List ℕ → Type 0
-TellsName d name = (at : Data) × (get (codes "client") d ≡ Some at) × IsNameJson name at
+abbrev pub ReportsName : Data → List ℕ → Type 0
+ReportsName d name = (at : Data) × (get (codes "client") d ≡ Some at) × IsNameJson name at
 
 -- the object has one operation, of this kind, and this is the value that holds its key
 abbrev pub IsAsked : Data → Kind → Data → Type 0
@@ -53,16 +53,16 @@ IsAsked d Get at = (get (codes "put") d ≡ None) × (get (codes "get") d ≡ So
 abbrev pub AsksKey : Data → Kind → List ℕ → Type 0
 AsksKey d kind key = IsAsked d kind (text_json key) × IsKey key
 
-abbrev pub TellsValue : Data → List ℕ → Type 0
-TellsValue d value = (get (codes "value") d ≡ Some (text_json value)) × Fits One (Some value)
+abbrev pub ReportsValue : Data → List ℕ → Type 0
+ReportsValue d value = (get (codes "value") d ≡ Some (text_json value)) × Fits One (Some value)
 
 -- a version: the text of its clock and node, its clock alone where its node is 0, or both numbers
 abbrev pub IsVersionJson : ℕ → Data → Type 0
 IsVersionJson v d =
     (d ≡ text_json (version_text v)) ⊎ ((d ≡ number_json (clock_of v)) × (node_of v ≡ 0)) ⊎ (d ≡ pair_json (clock_of v) (node_of v))
 
-abbrev pub TellsVersion : Data → ℕ → Type 0
-TellsVersion d v = (at : Data) × (get (codes "version") d ≡ Some at) × IsVersionJson v at × IsVersion v
+abbrev pub ReportsVersion : Data → ℕ → Type 0
+ReportsVersion d v = (at : Data) × (get (codes "version") d ≡ Some at) × IsVersionJson v at × IsVersion v
 
 -- no member, or null
 abbrev pub IsNothing : Option Data → Type 0
@@ -74,35 +74,35 @@ FoundNothing d = (get (codes "value") d ≡ Some null) × IsNothing (get (codes 
 
 -- ---- the operation
 
-abbrev pub TellsOp : Data → Op → Type 0
-TellsOp d (op.Put key value version) = AsksKey d Put key × TellsValue d value × TellsVersion d version
-TellsOp d (op.Got key value version) = AsksKey d Get key × TellsValue d value × TellsVersion d version
-TellsOp d (op.Missed key) = AsksKey d Get key × FoundNothing d
-TellsOp d _ = ⊥
+abbrev pub ReportsOp : Data → Op → Type 0
+ReportsOp d (op.Put key value version) = AsksKey d Put key × ReportsValue d value × ReportsVersion d version
+ReportsOp d (op.Got key value version) = AsksKey d Get key × ReportsValue d value × ReportsVersion d version
+ReportsOp d (op.Missed key) = AsksKey d Get key × FoundNothing d
+ReportsOp d _ = ⊥
 
 -- the object has this client's name and this operation
-abbrev pub Tells : Data → Told → Type 0
-Tells d told = TellsName d told.name × TellsOp d told.op
+abbrev pub Reports : Data → LineOp → Type 0
+Reports d reported = ReportsName d reported.name × ReportsOp d reported.op
 
 -- the line is the JSON text of such an object
-abbrev pub TextTells : List ℕ → Told → Type 0
-TextTells line told = (d : Data) × IsJson line d × Tells d told
+abbrev pub TextReports : List ℕ → LineOp → Type 0
+TextReports line reported = (d : Data) × IsJson line d × Reports d reported
 
 -- a blank line has no operation, and any other line has that of its object
-abbrev pub LineTells : List ℕ → Option Told → Type 0
-LineTells line None = IsBlank line
-LineTells line (Some told) = (IsBlank line → ⊥) × TextTells line told
+abbrev pub LineReports : List ℕ → Option LineOp → Type 0
+LineReports line None = IsBlank line
+LineReports line (Some reported) = (IsBlank line → ⊥) × TextReports line reported
 
 -- ---- what is wrong with a line
 
 abbrev pub HasName : Data → Type 0
-HasName d = (name : List ℕ) × TellsName d name
+HasName d = (name : List ℕ) × ReportsName d name
 
 abbrev pub HasNoValue : Data → Type 0
-HasNoValue d = (value : List ℕ) → TellsValue d value → ⊥
+HasNoValue d = (value : List ℕ) → ReportsValue d value → ⊥
 
 abbrev pub HasNoVersion : Data → Type 0
-HasNoVersion d = (v : ℕ) → TellsVersion d v → ⊥
+HasNoVersion d = (v : ℕ) → ReportsVersion d v → ⊥
 
 -- the value is missing: a put needs one, and so does a get, unless it found nothing
 abbrev pub LacksValue : Data → Kind → Type 0
@@ -111,11 +111,11 @@ LacksValue d Get = HasNoValue d × (FoundNothing d → ⊥)
 
 -- the version is missing, which a value needs
 abbrev pub LacksVersion : Data → Type 0
-LacksVersion d = (value : List ℕ) × TellsValue d value × HasNoVersion d
+LacksVersion d = (value : List ℕ) × ReportsValue d value × HasNoVersion d
 
 -- what is wrong with an object whose members checked before are right
-abbrev pub IsWrong : Data → LineFault → Type 0
-IsWrong d NoClient = (name : List ℕ) → TellsName d name → ⊥
+abbrev pub IsWrong : Data → JsonLineFault → Type 0
+IsWrong d NoClient = (name : List ℕ) → ReportsName d name → ⊥
 IsWrong d NoOperation = HasName d × (get (codes "put") d ≡ None) × (get (codes "get") d ≡ None)
 IsWrong d BothOperations = HasName d × (get (codes "put") d ≢ None) × (get (codes "get") d ≢ None)
 IsWrong d BadKey = HasName d × ((kind : Kind) × (at : Data) × IsAsked d kind at × ((key : List ℕ) → IsKey key → at ≢ text_json key))
@@ -124,9 +124,9 @@ IsWrong d BadVersion = HasName d × ((kind : Kind) × (key : List ℕ) × AsksKe
 IsWrong d _ = ⊥
 
 -- what is wrong with a line that is not blank
-abbrev pub IsWrongIn : List ℕ → LineFault → Type 0
+abbrev pub IsWrongIn : List ℕ → JsonLineFault → Type 0
 IsWrongIn line NoJson = (d : Data) → IsJson line d → ⊥
 IsWrongIn line fault = (d : Data) × IsJson line d × IsWrong d fault
 
-abbrev pub IsFaulty : List ℕ → LineFault → Type 0
+abbrev pub IsFaulty : List ℕ → JsonLineFault → Type 0
 IsFaulty line fault = (IsBlank line → ⊥) × IsWrongIn line fault

@@ -7,16 +7,16 @@ use Rattle.cops_trace.specs.Counts.{AreCountsOf}
 use Rattle.cops_trace.specs.Text.{ATrace, IsTrace, beginning, text}
 use Rattle.cops_trace.specs.declared.writer.TraceWriter.{TraceWriter}
 use Rattle.cops_import.specs.Faults.{IsCutBy, IsFaultOf, IsFaultyAfter, IsHeardBy, IsTooMany}
-use Rattle.cops_import.specs.Line.{LineTells}
-use Rattle.cops_import.specs.Lines.{IsWithin, LinesTell, lines, names_of, trace_of, with_told}
+use Rattle.cops_import.specs.Line.{LineReports}
+use Rattle.cops_import.specs.Lines.{IsWithin, LinesReport, lines, names_of, trace_of, with_reported}
 use Rattle.cops_import.specs.declared.fault.ImportFault.{ImportFault}
 use Rattle.cops_import.specs.declared.fault.ImportFault.TheVariants.{Changed, Endless, Line}
 use Rattle.cops_import.specs.declared.imported.Imported.{Imported}
 use Rattle.cops_import.specs.declared.importer.Importer.{Importer}
-use Rattle.cops_import.specs.declared.line.Told.{Told}
+use Rattle.cops_import.specs.declared.line.LineOp.{LineOp}
 
 -- the trace of the operations so far, with the number of clients that the caller said
-abbrev pub trace_to : ℕ → List Told → ATrace
+abbrev pub trace_to : ℕ → List LineOp → ATrace
 trace_to clients tolds = record (trace_of tolds) { clients = clients }
 
 -- the head and the records of a trace were written, and the writer did not fail
@@ -28,27 +28,27 @@ pub record HasWritten {W : Type 0} (contents : W → Option (List ℕ)) (from : 
   pub heard : failures w.writer ≡ failures from
 
 -- the importer took these operations: it has their names, and wrote their records
-pub record HasTaken {W : Type 0} (contents : W → Option (List ℕ)) (from : Counted W) (tolds : List Told) (i : Importer W) : Type 0 where
+pub record HasTaken {W : Type 0} (contents : W → Option (List ℕ)) (from : Counted W) (tolds : List LineOp) (i : Importer W) : Type 0 where
   pub names : i.names ≡ names_of tolds
   pub operations : i.operations ≡ length tolds
   pub wrote : HasWritten contents from (trace_to i.clients tolds) i.writer
 
 -- the importer took the line's operation, if it has one
-abbrev pub TakesLine : {W : Type 0} → (W → Option (List ℕ)) → Counted W → List Told → List ℕ → Importer W → Type 0
-TakesLine contents from tolds line i = (told : Option Told) × LineTells line told × HasTaken contents from (with_told tolds told) i
+abbrev pub TakesLine : {W : Type 0} → (W → Option (List ℕ)) → Counted W → List LineOp → List ℕ → Importer W → Type 0
+TakesLine contents from tolds line i = (reported : Option LineOp) × LineReports line reported × HasTaken contents from (with_reported tolds reported) i
 
 -- the importer took `fed`: all lines that ended, and the last line as far as it came, which it keeps
 pub record IsUnderway {W : Type 0} (contents : W → Option (List ℕ)) (from : Counted W) (fed : List ℕ) (i : Importer W) : Type 0 where
   pub ended : List (List ℕ)
-  pub tolds : List Told
-  pub tell : LinesTell ended tolds
+  pub tolds : List LineOp
+  pub report : LinesReport ended tolds
   pub counted : i.ended ≡ length ended
   pub split : (more : List ℕ) → lines (fed ++ more) ≡ ended ++ lines (i.line.items ++ more)
   pub within : IsWithin i.line.items
   pub taken : HasTaken contents from tolds i
 
 -- the end record was written after the records of these operations
-pub record HasEnded {W : Type 0} (contents : W → Option (List ℕ)) (from : Counted W) (tolds : List Told) (done : Imported W) : Type 0 where
+pub record HasEnded {W : Type 0} (contents : W → Option (List ℕ)) (from : Counted W) (tolds : List LineOp) (done : Imported W) : Type 0 where
   pub names : done.names ≡ names_of tolds
   pub operations : done.operations ≡ length tolds
   pub is_trace : IsTrace (trace_of tolds)
@@ -61,7 +61,7 @@ HasReadAll contents from known i = (fed : List ℕ) × IsUnderway contents from 
 
 -- the import ended with all operations of these bytes' lines
 abbrev pub Finishes : {W : Type 0} → (W → Option (List ℕ)) → Counted W → List ℕ → Imported W → Type 0
-Finishes contents from fed done = (tolds : List Told) × LinesTell (lines fed) tolds × HasEnded contents from tolds done
+Finishes contents from fed done = (tolds : List LineOp) × LinesReport (lines fed) tolds × HasEnded contents from tolds done
 
 -- ---- stopping
 
@@ -71,21 +71,21 @@ pub record HasLeft {W : Type 0} (contents : W → Option (List ℕ)) (from : Cou
   pub heard : IsHeardBy fault (failures from) (failures w)
 
 -- the fault that stops the import at this operation, of the line of this number, after the others
-abbrev pub IsStopOf : ℕ → ℕ → List Told → Told → ImportFault → Type 0
-IsStopOf clients number tolds told (Line n fault) = (n ≡ number) × IsTooMany tolds told fault
-IsStopOf clients number tolds told Changed = clients < length (names_of (tolds ++ told ∷ []))
-IsStopOf clients number tolds told Endless = ⊥
-IsStopOf clients number tolds told _ = Unit {0}
+abbrev pub IsStopOf : ℕ → ℕ → List LineOp → LineOp → ImportFault → Type 0
+IsStopOf clients number tolds reported (Line n fault) = (n ≡ number) × IsTooMany tolds reported fault
+IsStopOf clients number tolds reported Changed = clients < length (names_of (tolds ++ reported ∷ []))
+IsStopOf clients number tolds reported Endless = ⊥
+IsStopOf clients number tolds reported _ = Unit {0}
 
 -- the fault that stops the import at this line, of this number, after lines with these operations
-abbrev pub IsStopAt : ℕ → ℕ → List Told → List ℕ → ImportFault → Type 0
+abbrev pub IsStopAt : ℕ → ℕ → List LineOp → List ℕ → ImportFault → Type 0
 IsStopAt clients number tolds line (Line n fault) = (n ≡ number) × IsFaultyAfter tolds line fault
-IsStopAt clients number tolds line Changed = (told : Told) × LineTells line (Some told) × (clients < length (names_of (tolds ++ told ∷ [])))
+IsStopAt clients number tolds line Changed = (reported : LineOp) × LineReports line (Some reported) × (clients < length (names_of (tolds ++ reported ∷ [])))
 IsStopAt clients number tolds line Endless = ⊥
 IsStopAt clients number tolds line _ = Unit {0}
 
 -- the fault that stops the import at the end, after all lines with these operations
-abbrev pub IsStopAtEnd : ℕ → List Told → ImportFault → Type 0
+abbrev pub IsStopAtEnd : ℕ → List LineOp → ImportFault → Type 0
 IsStopAtEnd clients tolds (Line n fault) = ⊥
 IsStopAtEnd clients tolds Changed = length (names_of tolds) ≢ clients
 IsStopAtEnd clients tolds Endless = ⊥

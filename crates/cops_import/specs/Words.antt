@@ -2,10 +2,10 @@
 use Rattle.std.specs.Prelude.{ℕ, ◌+◌, List, [], ◌∷◌, ◌++◌, codes, decimal, length}
 use Rattle.cops_types.specs.Texts.{◌⧺◌}
 use Rattle.cops_wire.specs.Shown.{bytes_text}
-use Rattle.cops_import.specs.declared.fault.LineFault.{LineFault}
-use Rattle.cops_import.specs.declared.fault.LineFault.TheVariants.{NoJson, NoClient, NoOperation, BothOperations, BadKey, BadValue, BadVersion, TooManyClients, TooManyOperations}
+use Rattle.cops_import.specs.declared.fault.JsonLineFault.{JsonLineFault}
+use Rattle.cops_import.specs.declared.fault.JsonLineFault.TheVariants.{NoJson, NoClient, NoOperation, BothOperations, BadKey, BadValue, BadVersion, TooManyClients, TooManyOperations}
 
-abbrev pub words_of : LineFault → List ℕ
+abbrev pub words_of : JsonLineFault → List ℕ
 words_of NoJson = codes "no JSON"
 words_of NoClient = codes "no client"
 words_of NoOperation = codes "no operation"
@@ -17,7 +17,7 @@ words_of TooManyClients = codes "too many clients"
 words_of TooManyOperations = codes "too many operations"
 
 -- the line's number, and what is wrong with it
-abbrev pub faulty_line : ℕ → LineFault → List ℕ
+abbrev pub faulty_line : ℕ → JsonLineFault → List ℕ
 faulty_line number fault = codes "faulty: line " ⧺ decimal number ⧺ codes ": " ⧺ words_of fault ⧺ codes "\n"
 
 -- a client's number and its name, whose bytes are shown as those of a key
@@ -34,5 +34,5 @@ abbrev pub count_line : ℕ → ℕ → List ℕ
 count_line operations clients = codes "imported: " ⧺ decimal operations ⧺ codes " operations, " ⧺ decimal clients ⧺ codes " clients\n"
 
 -- the text that an import prints: the clients, and then the counts
-abbrev pub told_text : List (List ℕ) → ℕ → List ℕ
-told_text names operations = client_lines 0 names ++ count_line operations (length names)
+abbrev pub reported_text : List (List ℕ) → ℕ → List ℕ
+reported_text names operations = client_lines 0 names ++ count_line operations (length names)

@@ -8,7 +8,7 @@ use thiserror::Error;
 
 /// What is wrong with a line, in the order of the checks.
 #[derive(Clone, Copy, Debug, PartialEq, Eq, Error)]
-pub enum LineFault {
+pub enum JsonLineFault {
     /// 0: the line is no JSON text: it breaks the grammar or the encoding, or is nested deeper than 127.
     #[error("no JSON")]
     NoJson,
@@ -38,7 +38,7 @@ pub enum LineFault {
     TooManyOperations,
 }
 
-impl LineFault {
+impl JsonLineFault {
     ghost use Rattle.std.specs.Prelude.{◌≡◌};
     ghost use Rattle.cops_import.specs.Words.{words_of};
 
@@ -47,21 +47,21 @@ impl LineFault {
         ensures { result.now ≡ words_of self }
     {
         match self {
-            LineFault::NoJson => "no JSON",
-            LineFault::NoClient => "no client",
-            LineFault::NoOperation => "no operation",
-            LineFault::BothOperations => "both operations",
-            LineFault::BadKey => "bad key",
-            LineFault::BadValue => "bad value",
-            LineFault::BadVersion => "bad version",
-            LineFault::TooManyClients => "too many clients",
-            LineFault::TooManyOperations => "too many operations",
+            JsonLineFault::NoJson => "no JSON",
+            JsonLineFault::NoClient => "no client",
+            JsonLineFault::NoOperation => "no operation",
+            JsonLineFault::BothOperations => "both operations",
+            JsonLineFault::BadKey => "bad key",
+            JsonLineFault::BadValue => "bad value",
+            JsonLineFault::BadVersion => "bad version",
+            JsonLineFault::TooManyClients => "too many clients",
+            JsonLineFault::TooManyOperations => "too many operations",
         }
     }
 }
 
 /// The printed line that says what is wrong with the line of this number. Fails if memory runs out.
-pub fn faulty_line(alloc: Global, number: u64, fault: LineFault) -> Result<String, AllocError>
+pub fn faulty_line(alloc: Global, number: u64, fault: JsonLineFault) -> Result<String, AllocError>
     ensures { IfOk result (λ line. string_bytes line ≡ faulty_line number fault) }
 {
     let words = fault.words();
@@ -82,7 +82,7 @@ pub enum ImportFault {
     WriteFailed { written: usize },
     /// 3: this line, counted from 1, is the first that is wrong.
     #[error("line {number}: {fault}")]
-    Line { number: u64, fault: LineFault },
+    Line { number: u64, fault: JsonLineFault },
     /// 4: the lines name more or fewer clients than the caller said.
     #[error("another number of clients")]
     Changed,

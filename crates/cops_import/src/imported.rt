@@ -1,6 +1,6 @@
 //! The result of an import.
 ghost use Rattle.std.specs.Prelude.{◌≡◌, ◌++◌, IfOk, OnOk, string_bytes};
-ghost use Rattle.cops_import.specs.Words.{client_line, client_lines, count_line, told_text};
+ghost use Rattle.cops_import.specs.Words.{client_line, client_lines, count_line, reported_text};
 
 use crate::fault::ImportFault;
 use crate::name::Name;
@@ -22,19 +22,19 @@ pub struct Imported<W: Write> {
 
 impl<W: Write> Imported<W> {
     /// The text that an import prints: a line `client N NAME` for each client in the order of their numbers, and then
-    /// `imported: N operations, M clients` (`told_text` in `specs/Words.antt`). In the names, ASCII letters, digits,
+    /// `imported: N operations, M clients` (`reported_text` in `specs/Words.antt`). In the names, ASCII letters, digits,
     /// `-`, `.` and `_` stand as they are, and any other byte as `%` and two lower case hexadecimal digits. Fails if
     /// memory runs out.
-    pub fn told(&self, alloc: Global) -> Result<String, AllocError>
-        ensures ok { IfOk result (λ text. string_bytes text ≡ told_text self.now.names self.now.operations) }
+    pub fn reported(&self, alloc: Global) -> Result<String, AllocError>
+        ensures ok { IfOk result (λ text. string_bytes text ≡ reported_text self.now.names self.now.operations) }
     {
-        told(alloc, &self.names, self.operations)
+        reported(alloc, &self.names, self.operations)
     }
 }
 
 /// The printed text for these clients and this number of operations.
-fn told(alloc: Global, names: &Names, operations: usize) -> Result<String, AllocError>
-    ensures { IfOk result (λ text. string_bytes text ≡ told_text names.now operations) }
+fn reported(alloc: Global, names: &Names, operations: usize) -> Result<String, AllocError>
+    ensures { IfOk result (λ text. string_bytes text ≡ reported_text names.now operations) }
 {
     let mut text = client_lines(alloc, names)?;
     let counts = count_line(alloc, operations, names.len())?;

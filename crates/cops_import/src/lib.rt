@@ -15,9 +15,9 @@ mod names;
 mod reading;
 
 pub use count::count_clients;
-pub use fault::{ImportFault, LineFault, faulty_line};
+pub use fault::{ImportFault, JsonLineFault, faulty_line};
 pub use imported::{Imported, Unimported};
-pub use laws::lines_tell_one;
+pub use laws::lines_determine_one;
 pub use name::Name;
 pub use names::Names;
 pub use reading::import_stream;

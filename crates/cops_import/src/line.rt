@@ -2,11 +2,11 @@
 ghost use Rattle.std.specs.Prelude.{◌≡◌, ◌↔◌, Err, IfOk, IsTrue, Some, option_map};
 ghost use Rattle.serde_json.specs.Data.{null};
 ghost use Rattle.serde_json.specs.View.{view};
-ghost use Rattle.cops_import.specs.declared.fault.LineFault.{LineFault as AFault};
-ghost use Rattle.cops_import.specs.Line.{FoundNothing, IsAsked, IsBlank, IsFaulty, IsNothing, IsWrong, IsWrongIn, LineTells, Tells, TellsName, TextTells};
-ghost use Rattle.cops_import.specs.Asked.{IsWrongOf, TellsKind};
+ghost use Rattle.cops_import.specs.declared.fault.JsonLineFault.{JsonLineFault as AFault};
+ghost use Rattle.cops_import.specs.Line.{FoundNothing, IsAsked, IsBlank, IsFaulty, IsNothing, IsWrong, IsWrongIn, LineReports, Reports, ReportsName, TextReports};
+ghost use Rattle.cops_import.specs.Asked.{IsWrongOf, ReportsKind};
 
-use crate::fault::LineFault;
+use crate::fault::JsonLineFault;
 use crate::field::{name_of, value_of, version_of};
 use crate::name::Name;
 use cops_fields::{Unread, key};
@@ -16,7 +16,7 @@ use std::alloc::Global;
 
 /// The operation of a line, and the client's name.
 #[derive(Debug, Drop)]
-pub(crate) struct Told {
+pub(crate) struct LineOp {
     pub(crate) name: Name,
     pub(crate) op: Op,
 }
@@ -32,7 +32,7 @@ pub(crate) enum Kind {
 #[derive(Clone, Copy, Debug, PartialEq, Eq)]
 pub(crate) enum Untold {
     Memory,
-    Fault(LineFault),
+    Fault(JsonLineFault),
 }
 
 impl Untold {
@@ -40,7 +40,7 @@ impl Untold {
 
     /// Why a line gives no operation if one of its members was not read. `fault` is the line's fault if the member does
     /// not have the right form.
-    fn of(unread: Unread, fault: LineFault) -> Untold
+    fn of(unread: Unread, fault: JsonLineFault) -> Untold
         ensures memory { unread ≡ Unread.Memory → result ≡ Untold.Memory }
         ensures form { unread ≡ Unread.Form → result ≡ Untold.Fault fault }
     {
@@ -52,28 +52,28 @@ impl Untold {
 }
 
 /// The operation of a line, nothing if it is blank, or what is wrong with it.
-pub(crate) fn of_line(alloc: Global, line: &[u8]) -> Result<Option<Told>, Untold>
-    ensures told { IfOk result (LineTells line.now) }
+pub(crate) fn of_line(alloc: Global, line: &[u8]) -> Result<Option<LineOp>, Untold>
+    ensures reported { IfOk result (LineReports line.now) }
     ensures wrong { (fault : AFault) → result ≡ Err (Untold.Fault fault) → IsFaulty line.now fault }
 {
     if is_blank(line) {
         return Ok(None);
     }
     match of_text(alloc, line) {
-        Ok(told) => Ok(Some(told)),
+        Ok(reported) => Ok(Some(reported)),
         Err(untold) => Err(untold),
     }
 }
 
 /// The operation of a line's JSON text.
-fn of_text(alloc: Global, line: &[u8]) -> Result<Told, Untold>
-    ensures told { IfOk result (TextTells line.now) }
+fn of_text(alloc: Global, line: &[u8]) -> Result<LineOp, Untold>
+    ensures reported { IfOk result (TextReports line.now) }
     ensures wrong { (fault : AFault) → result ≡ Err (Untold.Fault fault) → IsWrongIn line.now fault }
 {
     match Json::from_slice(alloc, line) {
         Ok(object) => of_object(alloc, &object),
         Err(e) if e.is_memory() => Err(Untold::Memory),
-        Err(_) => Err(Untold::Fault(LineFault::NoJson)),
+        Err(_) => Err(Untold::Fault(JsonLineFault::NoJson)),
     }
 }
 
@@ -86,46 +86,58 @@ pub(crate) fn is_blank(line: &[u8]) -> bool
 }
 
 /// The operation of an object.
-fn of_object(alloc: Global, object: &Json) -> Result<Told, Untold>
-    ensures told { IfOk result (Tells (view object.now)) }
+fn of_object(alloc: Global, object: &Json) -> Result<LineOp, Untold>
+    ensures reported { IfOk result (Reports (view object.now)) }
     ensures wrong { (fault : AFault) → result ≡ Err (Untold.Fault fault) → IsWrong (view object.now) fault }
 {
     let name = match name_of(alloc, object) {
         Ok(name) => name,
-        Err(unread) => return Err(Untold::of(unread, LineFault::NoClient)),
+        Err(unread) => return Err(Untold::of(unread, JsonLineFault::NoClient)),
     };
     match (object.get("put"), object.get("get")) {
-        (None, None) => Err(Untold::Fault(LineFault::NoOperation)),
-        (Some(_), Some(_)) => Err(Untold::Fault(LineFault::BothOperations)),
+        (None, None) => Err(Untold::Fault(JsonLineFault::NoOperation)),
+        (Some(_), Some(_)) => Err(Untold::Fault(JsonLineFault::BothOperations)),
         (Some(at), None) => of_kind(alloc, name, Kind::Put, at, object),
         (None, Some(at)) => of_kind(alloc, name, Kind::Get, at, object),
     }
 }
 
 /// The operation of this client's object, given its kind and the value of its key's member.
-fn of_kind(alloc: Global, name: Name, kind: Kind, at: &Json, object: &Json) -> Result<Told, Untold>
-    requires name { TellsName (view object.now) name }
+fn of_kind(
+    alloc: Global,
+    name: Name,
+    kind: Kind,
+    at: &Json,
+    object: &Json,
+) -> Result<LineOp, Untold>
+    requires name { ReportsName (view object.now) name }
     requires asked { IsAsked (view object.now) kind (view at.now) }
-    ensures told { IfOk result (Tells (view object.now)) }
+    ensures reported { IfOk result (Reports (view object.now)) }
     ensures wrong { (fault : AFault) → result ≡ Err (Untold.Fault fault) → IsWrong (view object.now) fault }
 {
     match op(alloc, kind, at, object) {
-        Ok(op) => Ok(Told { name, op }),
+        Ok(op) => Ok(LineOp { name, op }),
         Err(untold) => Err(untold),
     }
 }
 
 /// The operation of this kind, whose key is in `at`.
 fn op(alloc: Global, kind: Kind, at: &Json, object: &Json) -> Result<Op, Untold>
-    ensures told { IfOk result (TellsKind (view object.now) kind (view at.now)) }
+    ensures reported { IfOk result (ReportsKind (view object.now) kind (view at.now)) }
     ensures wrong { (fault : AFault) → result ≡ Err (Untold.Fault fault) → IsWrongOf (view object.now) kind (view at.now) fault }
 {
-    let key = key(alloc, at).map_err(|unread| Untold::of(unread, LineFault::BadKey))?;
+    let key = key(alloc, at).map_err(|unread| Untold::of(unread, JsonLineFault::BadKey))?;
     if kind == Kind::Get && found_nothing(object) {
         return Ok(Op::Missed { key });
     }
-    let value = value_of(alloc, object).map_err(|unread| Untold::of(unread, LineFault::BadValue))?;
-    let version = version_of(object).map_err(|unread| Untold::of(unread, LineFault::BadVersion))?;
+    let value = value_of(alloc, object).map_err(|unread| Untold::of(
+        unread,
+        JsonLineFault::BadValue,
+    ))?;
+    let version = version_of(object).map_err(|unread| Untold::of(
+        unread,
+        JsonLineFault::BadVersion,
+    ))?;
     Ok(match kind {
         Kind::Put => Op::Put {
             key,

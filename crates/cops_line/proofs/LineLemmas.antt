@@ -11,7 +11,7 @@ use Rattle.cops_line.specs.declared.job.Job.{Job}
 use Rattle.cops_line.specs.declared.fault.LineFault.{LineFault}
 use Rattle.cops_line.specs.declared.fault.LineFault.TheVariants.{Memory, Usage, Help, Version}
 use Rattle.cops_line.specs.Commands.{cops_app}
-use Rattle.cops_line.specs.Line.{IsJobIn, HasNoJobIn, IsRead, AsksFor, OnlyAsksFor, Tells, TellsNone, Explains, Reports}
+use Rattle.cops_line.specs.Line.{IsJobIn, HasNoJobIn, IsRead, AsksFor, OnlyAsksFor, Requests, RequestsNone, Explains, Reports}
 
 -- `clap`'s contracts state the matches and the faults of this command
 pub simple_command : is_simple_and_free cops_app ≡ true
@@ -26,11 +26,11 @@ pub simple_matches : is_simple cops_app ≡ true
 simple_matches = first_true (is_simple cops_app) (is_free_app (built cops_app)) simple_command
 
 -- words that are not empty ask for what they read as
-pub told : (words : List Text) (job : Job) → 0 < length words → IsRead words job → Tells words job
-told [] job some read = absurd (omega arith)
-told (w ∷ ws) job some read = read
+pub requested : (words : List Text) (job : Job) → 0 < length words → IsRead words job → Requests words job
+requested [] job some read = absurd (omega arith)
+requested (w ∷ ws) job some read = read
 
-pub untold : (words : List Text) → 0 < length words → ((job : Job) → ¬ IsRead words job) → TellsNone words
+pub untold : (words : List Text) → 0 < length words → ((job : Job) → ¬ IsRead words job) → RequestsNone words
 untold [] some none = absurd (omega arith)
 untold (w ∷ ws) some none = none
 
@@ -67,7 +67,7 @@ asks_for_none words asked app same kinds only =
     let none = subst Taken same kinds simple_command in cc
 
 -- words that were taken, and are no job, get a usage
-pub refused : (words : List Text) (fault : LineFault) → Reports ArgumentConflict fault → TellsNone words → ¬ OnlyAsksFor DisplayHelp words → ¬ OnlyAsksFor DisplayVersion words → Explains words fault
+pub refused : (words : List Text) (fault : LineFault) → Reports ArgumentConflict fault → RequestsNone words → ¬ OnlyAsksFor DisplayHelp words → ¬ OnlyAsksFor DisplayVersion words → Explains words fault
 refused words Memory report none help version = tt
 refused words (Usage text) report none help version = (none, help, version)
 refused words (Help text) report none help version = absurd cc

@@ -85,13 +85,13 @@ abbrev pub IsRead : List Text → Job → Type 0
 IsRead words job = (fault_of cops_app words ≡ []) × IsJobIn (subcommand_of cops_app words) job
 
 -- there are no words and the job is the default, or the words read as the job
-abbrev pub Tells : List Text → Job → Type 0
-Tells [] job = IsDefault job
-Tells (word ∷ words) job = IsRead (word ∷ words) job
+abbrev pub Requests : List Text → Job → Type 0
+Requests [] job = IsDefault job
+Requests (word ∷ words) job = IsRead (word ∷ words) job
 
 -- the words are no job
-abbrev pub TellsNone : List Text → Type 0
-TellsNone words = (job : Job) → ¬ Tells words job
+abbrev pub RequestsNone : List Text → Type 0
+RequestsNone words = (job : Job) → ¬ Requests words job
 
 -- the words ask the program's command for such a text: its help, or its version
 abbrev pub AsksFor : ErrorKind → List Text → Type 0
@@ -105,9 +105,9 @@ OnlyAsksFor kind words = fault_of cops_app words ≡ kind ∷ []
 -- nothing else usage is not returned in their place.
 abbrev pub Explains : List Text → LineFault → Type 0
 Explains words Memory = Unit {0}
-Explains words (Usage text) = TellsNone words × (¬ OnlyAsksFor DisplayHelp words) × (¬ OnlyAsksFor DisplayVersion words)
-Explains words (Help text) = TellsNone words × AsksFor DisplayHelp words
-Explains words (Version text) = TellsNone words × AsksFor DisplayVersion words
+Explains words (Usage text) = RequestsNone words × (¬ OnlyAsksFor DisplayHelp words) × (¬ OnlyAsksFor DisplayVersion words)
+Explains words (Help text) = RequestsNone words × AsksFor DisplayHelp words
+Explains words (Version text) = RequestsNone words × AsksFor DisplayVersion words
 
 -- the fault for an error of this kind
 abbrev pub Reports : ErrorKind → LineFault → Type 0

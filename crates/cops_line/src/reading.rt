@@ -1,7 +1,7 @@
 ghost use Rattle.std.specs.Prelude.{◌≡◌, [], IsOk, IfOk, IfErr, map};
 ghost use Rattle.clap.specs.Words.{kind_of};
 ghost use Rattle.clap.specs.declared.error.kind.ErrorKind.TheVariants.{ArgumentConflict};
-ghost use Rattle.cops_line.specs.Line.{Tells, Explains, Reports};
+ghost use Rattle.cops_line.specs.Line.{Requests, Explains, Reports};
 
 use crate::command::cops_command;
 use crate::fault::LineFault;
@@ -61,7 +61,7 @@ fn no_job(alloc: Global, subcommand: Option<&str>) -> LineFault
 /// Words that are a job never return `Usage`, `Help` or `Version`, and words that only ask for the help or the version
 /// do not return `Usage`.
 pub fn line<'a>(alloc: Global, words: &'a [&'a str]) -> Result<Job<'a>, LineFault>
-    ensures job { IfOk result (Tells (map (λ s. s.now) words.entry.now)) }
+    ensures job { IfOk result (Requests (map (λ s. s.now) words.entry.now)) }
     ensures fault { IfErr result (Explains (map (λ s. s.now) words.entry.now)) }
     ensures none { words.entry.now ≡ [] → IsOk result }
 {

@@ -10,14 +10,14 @@ use Rattle.cops_wire.specs.Grammar.{grammar_two, Parts}
 use Rattle.cops_wire.specs.Message.{parts}
 use Rattle.cops_wire.specs.Replicated.{put_after}
 use Rattle.cops_wire.specs.Answer.{IsAnswer, Answers}
-use Rattle.cops_wire.proofs.Codec.{spelling_answered}
+use Rattle.cops_wire.proofs.Codec.{encoding_answered}
 use Rattle.cops_wire.proofs.Messages.{parts-same}
-use Rattle.cops_link.specs.Frame.{spelled, IsPutAfter}
+use Rattle.cops_link.specs.Frame.{encoded, IsPutAfter}
 
 -- The bytes of the message of a put or a deletion decode to that message.
-pub answered : (bytes again : List ℕ) → again ≡ bytes → (is : IsPutAfter bytes) → IsAnswer grammar_two again (Ok (parts (put_after is.0), length (spelled is.0)))
+pub answered : (bytes again : List ℕ) → again ≡ bytes → (is : IsPutAfter bytes) → IsAnswer grammar_two again (Ok (parts (put_after is.0), length (encoded is.0)))
 answered bytes again same is =
-    subst (λ x. IsAnswer grammar_two x (Ok (parts (put_after is.0), length (spelled is.0)))) (append-nil _ ∙ is.2 ∙ sym same) (spelling_answered Two (parts (put_after is.0)) [] is.1)
+    subst (λ x. IsAnswer grammar_two x (Ok (parts (put_after is.0), length (encoded is.0)))) (append-nil _ ∙ is.2 ∙ sym same) (encoding_answered Two (parts (put_after is.0)) [] is.1)
 
 -- The only possible fault is running out of memory.
 pub only_memory : (e : WireFault) (a : Parts × ℕ) → Answers (Err e) (λ b. b ≡ Ok a) → e ≡ Memory

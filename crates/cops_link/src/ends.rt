@@ -3,7 +3,7 @@ ghost use Rattle.std.specs.Prelude.{◌≡◌, ◌≤◌, ◌<◌, ◌⊎◌, �
 ghost use Rattle.cops_types.specs.declared.put_record.PutRecord.{PutRecord};
 ghost use Rattle.cops_wire.specs.Replicated.{put_after};
 ghost use Rattle.cops_link.specs.declared.ends.TheConstants.{MAX_CAPACITY};
-ghost use Rattle.cops_link.specs.Frame.{spelled};
+ghost use Rattle.cops_link.specs.Frame.{encoded};
 ghost use Rattle.cops_link.specs.Link.{sent, taken, seen, known_room, all_sent, IsLink, IsFinishedOf, SameIn, SameOut, Finishes};
 
 use crate::fault::{LinkFault, SendFault};
@@ -60,7 +60,7 @@ impl LinkIn {
         ensures full { IfErr result (λ e. (e ≡ SendFault.Full frame) × (sent self.new ≡ sent self.old) × (known_room self.new ≡ 0)) }
         ensures room { 0 < known_room self.old → IsOk result }
     {
-        frame.spells_a_put();
+        frame.encodes_a_put();
         match self.producer.push(frame) {
             Ok(()) => Ok(()),
             Err(PushError::Full(back)) => Err(SendFault::Full(back)),
@@ -83,7 +83,7 @@ impl LinkOut {
     pub fn take(&mut self) -> Result<Option<Message>, Memory>
         ensures same { SameOut self.old self.new }
         ensures none { IfOk result (λ o. MatchOption o ((taken self.new ≡ taken self.old) × (seen self.new ≡ [])) (λ _. Unit {0})) }
-        ensures some { IfOk result (λ o. MatchOption o (Unit {0}) (λ m. (put : PutRecord) × (m ≡ put_after put) × (taken self.new ≡ taken self.old ++ spelled put ∷ []))) }
+        ensures some { IfOk result (λ o. MatchOption o (Unit {0}) (λ m. (put : PutRecord) × (m ≡ put_after put) × (taken self.new ≡ taken self.old ++ encoded put ∷ []))) }
         ensures err { OnErr result (taken self.new ≡ taken self.old) }
         ensures memory { OnErr result (0 < length (seen self.new)) }
     {

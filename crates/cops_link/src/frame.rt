@@ -1,7 +1,7 @@
 //! What a link carries.
 ghost use Rattle.std.specs.Prelude.{◌≡◌, IfOk};
 ghost use Rattle.cops_wire.specs.Replicated.{put_after};
-ghost use Rattle.cops_link.specs.Frame.{spelled};
+ghost use Rattle.cops_link.specs.Frame.{encoded};
 
 use cops_types::{Format, Memory, PutRecord};
 use cops_wire::{Message, WireFault, decode_in, encode_put_after};
@@ -29,12 +29,12 @@ impl Model for Frame {
 impl Frame {
     ghost use Rattle.std.specs.Prelude.{◌≡◌, IfOk};
     ghost use Rattle.cops_wire.specs.Replicated.{put_after};
-    ghost use Rattle.cops_link.specs.Frame.{spelled, IsPutAfter};
+    ghost use Rattle.cops_link.specs.Frame.{encoded, IsPutAfter};
 
     /// Encodes the message of a put, or of a deletion where the put has no value, always in format 2. Returns `Memory`
     /// when memory runs out.
     pub fn of(alloc: Global, put: &PutRecord) -> Result<Frame, Memory>
-        ensures { IfOk result (λ frame. frame ≡ spelled put.now) }
+        ensures { IfOk result (λ frame. frame ≡ encoded put.now) }
     {
         let mut bytes = Vec::new(alloc);
         encode_put_after(put, &mut bytes)?;
@@ -42,7 +42,7 @@ impl Frame {
     }
 
     /// States the type's invariant for the prover: the frame encodes the message of a put or a deletion.
-    pub(crate) fn spells_a_put(&self)
+    pub(crate) fn encodes_a_put(&self)
         ensures { IsPutAfter self.now }
     {
         let _bytes = &self.bytes;
@@ -50,17 +50,17 @@ impl Frame {
 
     /// Decodes the frame's message, which replicates a put or a deletion. Returns `Memory` when memory runs out.
     pub(crate) fn message(&self, alloc: Global) -> Result<Message, Memory>
-        ensures { IfOk result (λ m. (put : PutRecord) × (m ≡ put_after put) × (spelled put ≡ self.now)) }
+        ensures { IfOk result (λ m. (put : PutRecord) × (m ≡ put_after put) × (encoded put ≡ self.now)) }
     {
         match decode_in(Format::Two, alloc, &self.bytes) {
             Ok(decoded) => Ok(decoded.message),
-            Err(fault) => Err(want_of_memory(fault)),
+            Err(fault) => Err(out_of_memory(fault)),
         }
     }
 }
 
 /// The only fault that decoding a frame can have: out of memory.
-fn want_of_memory(fault: WireFault) -> Memory
+fn out_of_memory(fault: WireFault) -> Memory
     requires { fault ≡ WireFault.Memory }
 {
     match fault {

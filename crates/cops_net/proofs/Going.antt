@@ -14,17 +14,17 @@ use Rattle.cops_net.specs.declared.fault.NetFault.TheVariants.{Memory, Wire, Rea
 use Rattle.cops_net.specs.declared.reply.Call.{Call}
 use Rattle.cops_net.specs.declared.serving.TheConstants.{MAX_MESSAGES}
 use Rattle.cops_net.specs.Protocol.{IsLegalIn, AreCallsOf, replies, welcomes}
-use Rattle.cops_wire.specs.Message.{spelled}
+use Rattle.cops_wire.specs.Message.{encoded}
 use Rattle.cops_net.specs.Sessions.{text, is_bye, StaysOpen, next_format, Answered, BrokeOff, Serves}
 use Rattle.cops_net.specs.Turns.{IsTurn, IsTaken, IsAnswered}
 use Rattle.cops_net.proofs.Lists.{calls-append, spoken-append, spoken_one, replies-append, replies_ignore, bye_only}
 
-one_more : (ms : List Message) (m : Message) → text (ms ++ m ∷ []) ≡ text ms ++ spelled m
-one_more ms m = flat_map-append spelled ms (m ∷ []) ∙ ap (λ (x : List ℕ). text ms ++ x) (append-nil (spelled m))
+one_more : (ms : List Message) (m : Message) → text (ms ++ m ∷ []) ≡ text ms ++ encoded m
+one_more ms m = flat_map-append encoded ms (m ∷ []) ∙ ap (λ (x : List ℕ). text ms ++ x) (append-nil (encoded m))
 
 -- before anything was taken
 pub begun : (format : Format) → Answered format [] [] [] [] []
-begun format = record { legal = tt; read = refl; called = refl; told = refl; told_legal = All-nil (IsLegalIn format) }
+begun format = record { legal = tt; read = refl; called = refl; reported = refl; reported_legal = All-nil (IsLegalIn format) }
 
 -- more bytes came, and no message was taken
 pub more_came : (format : Format) (ms : List Message) (input : List ℕ) (calls : List Call) (written rest more : List ℕ) → Answered format ms input calls written rest
@@ -33,15 +33,15 @@ more_came format ms input calls written rest more a = record {
   legal = a.legal;
   read = ap (λ (x : List ℕ). x ++ more) a.read ∙ append_assoc (text ms) rest more;
   called = a.called;
-  told = a.told;
-  told_legal = a.told_legal;
+  reported = a.reported;
+  reported_legal = a.reported_legal;
 }
 
-read_one : (ms : List Message) (m : Message) (input rest more left : List ℕ) → input ≡ text ms ++ rest → rest ++ more ≡ spelled m ++ left
+read_one : (ms : List Message) (m : Message) (input rest more left : List ℕ) → input ≡ text ms ++ rest → rest ++ more ≡ encoded m ++ left
     → input ++ more ≡ text (ms ++ m ∷ []) ++ left
 read_one ms m input rest more left e k =
     ap (λ (x : List ℕ). x ++ more) e ∙ append_assoc (text ms) rest more ∙ ap (λ (x : List ℕ). text ms ++ x) k
-    ∙ sym (append_assoc (text ms) (spelled m) left) ∙ ap (λ (x : List ℕ). x ++ left) (sym (one_more ms m))
+    ∙ sym (append_assoc (text ms) (encoded m) left) ∙ ap (λ (x : List ℕ). x ++ left) (sym (one_more ms m))
 
 replied_one : (format : Format) (ms : List Message) (m : Message) (calls gained : List Call) (reply : Message) → AreCallsOf format false ms calls → IsTurn format (list_any welcomes calls) m gained reply
     → replies format false (ms ++ m ∷ []) (calls ++ gained) ≡ replies format false ms calls ++ reply ∷ []
@@ -55,22 +55,22 @@ one_more_legal format ms m calls gained reply h t all =
 
 -- a message was taken and answered
 pub goes_on : (format : Format) (ms : List Message) (input : List ℕ) (calls : List Call) (written rest : List ℕ) (m : Message) (more left : List ℕ) (gained : List Call) (reply : Message)
-    → Answered format ms input calls written rest → IsLegalIn (next_format format calls) m → rest ++ more ≡ spelled m ++ left → IsTurn format (list_any welcomes calls) m gained reply
-    → Answered format (ms ++ m ∷ []) (input ++ more) (calls ++ gained) (written ++ spelled reply) left
+    → Answered format ms input calls written rest → IsLegalIn (next_format format calls) m → rest ++ more ≡ encoded m ++ left → IsTurn format (list_any welcomes calls) m gained reply
+    → Answered format (ms ++ m ∷ []) (input ++ more) (calls ++ gained) (written ++ encoded reply) left
 goes_on format ms input calls written rest m more left gained reply a l k t = record {
   legal = spoken-append format false ms (m ∷ []) calls gained a.called a.legal (spoken_one format (list_any welcomes calls) m gained l t.called);
   read = read_one ms m input rest more left a.read k;
   called = calls-append format false ms (m ∷ []) calls gained a.called t.called;
-  told =
-      ap (λ (x : List ℕ). x ++ spelled reply) a.told ∙ sym (one_more (replies format false ms calls) reply)
+  reported =
+      ap (λ (x : List ℕ). x ++ encoded reply) a.reported ∙ sym (one_more (replies format false ms calls) reply)
       ∙ ap text (sym (replied_one format ms m calls gained reply a.called t));
-  told_legal = one_more_legal format ms m calls gained reply a.called t a.told_legal;
+  reported_legal = one_more_legal format ms m calls gained reply a.called t a.reported_legal;
 }
 
 -- a message was taken and handed over, and its reply was not written completely
 pub breaks_off : (format : Format) (ms : List Message) (input : List ℕ) (calls : List Call) (written rest : List ℕ) (m : Message) (more left : List ℕ) (gained : List Call) (reply : Message) (part missing : List ℕ)
-    → Answered format ms input calls written rest → IsLegalIn (next_format format calls) m → rest ++ more ≡ spelled m ++ left → IsTurn format (list_any welcomes calls) m gained reply
-    → spelled reply ≡ part ++ missing → missing ≢ []
+    → Answered format ms input calls written rest → IsLegalIn (next_format format calls) m → rest ++ more ≡ encoded m ++ left → IsTurn format (list_any welcomes calls) m gained reply
+    → encoded reply ≡ part ++ missing → missing ≢ []
     → BrokeOff format ms m (input ++ more) (calls ++ gained) (written ++ part) left
 breaks_off format ms input calls written rest m more left gained reply part missing a l k t parts_are some = record {
   legal = spoken-append format false ms (m ∷ []) calls gained a.called a.legal (spoken_one format (list_any welcomes calls) m gained l t.called);
@@ -82,8 +82,8 @@ breaks_off format ms input calls written rest m more left gained reply part miss
   missing = missing;
   parts_are = parts_are;
   some_missing = some;
-  told = ap (λ (x : List ℕ). x ++ part) (a.told ∙ ap text (sym (replies_ignore format false ms calls gained a.called)));
-  told_legal = one_more_legal format ms m calls gained reply a.called t a.told_legal;
+  reported = ap (λ (x : List ℕ). x ++ part) (a.reported ∙ ap text (sym (replies_ignore format false ms calls gained a.called)));
+  reported_legal = one_more_legal format ms m calls gained reply a.called t a.reported_legal;
 }
 
 -- ---- the ends of a session
@@ -105,7 +105,7 @@ ends_input format P ms input calls written rest more left n stays a count t =
 
 -- the client said `Bye`
 pub ends_bye : (format : Format) (P : Type 0) (ms : List Message) (input : List ℕ) (calls : List Call) (written rest : List ℕ) (m : Message) (more left : List ℕ) (gained : List Call) (out : List ℕ) (after : Bool) (n : ℕ)
-    → StaysOpen ms → Answered format ms input calls written rest → n ≡ length ms → IsLegalIn (next_format format calls) m → rest ++ more ≡ spelled m ++ left
+    → StaysOpen ms → Answered format ms input calls written rest → n ≡ length ms → IsLegalIn (next_format format calls) m → rest ++ more ≡ encoded m ++ left
     → IsAnswered format (list_any welcomes calls) m gained out (Ok after) → is_bye m ≡ true
     → Serves format P (input ++ more) (calls ++ gained) (written ++ out) (Ok (record { answered = n + 1 }))
 ends_bye format P ms input calls written rest m more left gained out after n stays a count l k t bye = (
@@ -118,21 +118,21 @@ ends_bye format P ms input calls written rest m more left gained out after n sta
 
 -- a message got no reply
 pub ends_answering : (format : Format) (P : Type 0) (ms : List Message) (input : List ℕ) (calls : List Call) (written rest : List ℕ) (m : Message) (more left : List ℕ) (gained : List Call) (out : List ℕ) (e : NetFault)
-    → StaysOpen ms → Answered format ms input calls written rest → IsLegalIn (next_format format calls) m → rest ++ more ≡ spelled m ++ left
+    → StaysOpen ms → Answered format ms input calls written rest → IsLegalIn (next_format format calls) m → rest ++ more ≡ encoded m ++ left
     → IsAnswered format (list_any welcomes calls) m gained out (Err e)
     → Serves format P (input ++ more) (calls ++ gained) (written ++ out) (Err e)
 ends_answering format P ms input calls written rest m more left gained out Memory stays a l k (none, inl silent) =
     (ms, rest ++ more, stays, inl (rw (none, silent, append-nil calls, append-nil written) (more_came format ms input calls written rest more a)))
 ends_answering format P ms input calls written rest m more left gained out Memory stays a l k (none, inr (reply, t, some)) =
-    (ms, left, stays, inr (m, rw none (breaks_off format ms input calls written rest m more left gained reply [] (spelled reply) a l k t refl some)))
+    (ms, left, stays, inr (m, rw none (breaks_off format ms input calls written rest m more left gained reply [] (encoded reply) a l k t refl some)))
 ends_answering format P ms input calls written rest m more left gained out WriteFailed stays a l k (reply, t, (n, fewer, part)) = (
   ms,
   left,
   stays,
   (
     m,
-    rw part (breaks_off format ms input calls written rest m more left gained reply (take n (spelled reply)) (drop n (spelled reply)) a l k t
-        (sym (take-append-drop n (spelled reply))) (λ e. absurd (omega (arith, ap length e, length-drop n (spelled reply), fewer)))),
+    rw part (breaks_off format ms input calls written rest m more left gained reply (take n (encoded reply)) (drop n (encoded reply)) a l k t
+        (sym (take-append-drop n (encoded reply))) (λ e. absurd (omega (arith, ap length e, length-drop n (encoded reply), fewer)))),
   ),
 )
 ends_answering format P ms input calls written rest m more left gained out _ stays a l k t = absurd t

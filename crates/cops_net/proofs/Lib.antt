@@ -1,4 +1,4 @@
-pub mod Spellings
+pub mod Encodings
 pub mod Turning
 pub mod Readings
 pub mod Lists

@@ -7,7 +7,7 @@ use Rattle.cops_types.specs.declared.format.Format.{Format}
 use Rattle.cops_wire.specs.declared.message.Message.{Message}
 use Rattle.cops_wire.specs.declared.message.Message.TheVariants as message
 use Rattle.cops_net.specs.declared.reply.Call.{Call}
-use Rattle.cops_net.specs.Protocol.{phase, IsLegalIn, seq_of, is_handed, own_reply, Hands, told, welcomes, HasFirst, from_first, AreCallsOf, AreSpoken, replies}
+use Rattle.cops_net.specs.Protocol.{phase, IsLegalIn, seq_of, is_handed, own_reply, Hands, reported, welcomes, HasFirst, from_first, AreCallsOf, AreSpoken, replies}
 use Rattle.cops_net.specs.Sessions.{is_bye}
 
 or_assoc : (a b c : Bool) → ((a || b) || c) ≡ (a || (b || c))
@@ -44,7 +44,7 @@ replies-append format greeted (m ∷ ms) others calls more h = go (λ b cs x. re
   where
     from : Bool → List Message → List Call → List Message
     from handed rest cs =
-        if handed then from_first cs (λ c later. told (seq_of m) c ∷ replies format (greeted || welcomes c) rest later) else own_reply greeted m ∷ replies format greeted rest cs
+        if handed then from_first cs (λ c later. reported (seq_of m) c ∷ replies format (greeted || welcomes c) rest later) else own_reply greeted m ∷ replies format greeted rest cs
 
     go : ((b : Bool) (cs : List Call) → AreCallsOf format b ms cs → replies format b (ms ++ others) (cs ++ more) ≡ replies format b ms cs ++ replies format (b || list_any welcomes cs) others more)
         → (handed : Bool) → (cs : List Call)
@@ -52,7 +52,7 @@ replies-append format greeted (m ∷ ms) others calls more h = go (λ b cs x. re
         → from handed (ms ++ others) (cs ++ more) ≡ from handed ms cs ++ replies format (greeted || list_any welcomes cs) others more
     go again true [] h = absurd h
     go again true (c ∷ cs) h =
-        ap (λ (rs : List Message). told (seq_of m) c ∷ rs)
+        ap (λ (rs : List Message). reported (seq_of m) c ∷ rs)
         (again (greeted || welcomes c) cs h.1
         ∙ ap (λ (b : Bool). replies format (greeted || welcomes c) ms cs ++ replies format b others more) (or_assoc greeted (welcomes c) (list_any welcomes cs)))
     go again false cs h = ap (λ (rs : List Message). own_reply greeted m ∷ rs) (again greeted cs h)
@@ -103,7 +103,7 @@ one_reply format greeted [] calls h = refl
 one_reply format greeted (m ∷ ms) calls h = go (λ b cs x. one_reply format b ms cs x) (is_handed format greeted m) calls h
   where
     from : Bool → List Call → List Message
-    from handed cs = if handed then from_first cs (λ c later. told (seq_of m) c ∷ replies format (greeted || welcomes c) ms later) else own_reply greeted m ∷ replies format greeted ms cs
+    from handed cs = if handed then from_first cs (λ c later. reported (seq_of m) c ∷ replies format (greeted || welcomes c) ms later) else own_reply greeted m ∷ replies format greeted ms cs
 
     go : ((b : Bool) (cs : List Call) → AreCallsOf format b ms cs → length (replies format b ms cs) ≡ length ms) → (handed : Bool) → (cs : List Call)
         → MatchBool handed (HasFirst cs (λ c rest. Hands m c × AreCallsOf format (greeted || welcomes c) ms rest)) (AreCallsOf format greeted ms cs)

@@ -4,12 +4,12 @@ use Rattle.std.proofs.Math.Bool.{or-false}
 use Rattle.cops_types.specs.declared.format.Format.{Format}
 use Rattle.cops_wire.specs.declared.message.Message.{Message}
 use Rattle.cops_net.specs.declared.reply.Call.{Call}
-use Rattle.cops_net.specs.Protocol.{IsLegalIn, seq_of, is_handed, own_reply, Hands, told, welcomes}
+use Rattle.cops_net.specs.Protocol.{IsLegalIn, seq_of, is_handed, own_reply, Hands, reported, welcomes}
 use Rattle.cops_net.specs.Turns.{is_welcome, IsTurn}
 
 -- a message that was handed over by this call
 pub handed_turn : (format : Format) (greeted : Bool) (m : Message) (c : Call) (reply : Message) → is_handed format greeted m ≡ true → Hands m c
-    → reply ≡ told (seq_of m) c → is_welcome reply ≡ welcomes c → IsLegalIn format reply → IsTurn format greeted m (c ∷ []) reply
+    → reply ≡ reported (seq_of m) c → is_welcome reply ≡ welcomes c → IsLegalIn format reply → IsTurn format greeted m (c ∷ []) reply
 handed_turn format greeted m c reply handed hands is welcome legal = record {
   called = rw handed (hands, refl);
   reply_is = rw handed (ap (λ (r : Message). r ∷ []) (sym is));

@@ -110,13 +110,13 @@ standing seq None = refused seq NoSuchNode
 standing seq (Some s) = StatusIs seq s.clock (capped s.keys) (capped s.settled) (capped s.held)
 
 -- the reply that reports a call's answer
-abbrev pub told : ℕ → Call → Message
-told seq (called.Hello client answer) = welcome seq answer
-told seq (called.Put key value answer) = outcome seq answer
-told seq (called.Del key answer) = outcome seq answer
-told seq (called.Get key answer) = outcome seq answer
-told seq (called.DepCheck key version answer) = outcome seq answer
-told seq (called.Status place answer) = standing seq answer
+abbrev pub reported : ℕ → Call → Message
+reported seq (called.Hello client answer) = welcome seq answer
+reported seq (called.Put key value answer) = outcome seq answer
+reported seq (called.Del key answer) = outcome seq answer
+reported seq (called.Get key answer) = outcome seq answer
+reported seq (called.DepCheck key version answer) = outcome seq answer
+reported seq (called.Status place answer) = standing seq answer
 
 -- a greeting that was answered with a data centre
 abbrev pub welcomes : Call → Bool
@@ -156,5 +156,5 @@ abbrev pub replies : Format → Bool → List Message → List Call → List Mes
 replies format greeted [] calls = []
 replies format greeted (m ∷ ms) calls =
     if is_handed format greeted m
-    then from_first calls (λ c cs. told (seq_of m) c ∷ replies format (greeted || welcomes c) ms cs)
+    then from_first calls (λ c cs. reported (seq_of m) c ∷ replies format (greeted || welcomes c) ms cs)
     else own_reply greeted m ∷ replies format greeted ms calls

@@ -7,7 +7,7 @@ use Rattle.cops_wire.specs.declared.fault.WireFault.TheVariants as wire
 use Rattle.cops_wire.specs.declared.message.Message.{Message}
 use Rattle.cops_wire.specs.declared.message.Message.TheVariants.{Bye}
 use Rattle.cops_wire.specs.Grammar.{grammar}
-use Rattle.cops_wire.specs.Message.{spelled}
+use Rattle.cops_wire.specs.Message.{encoded}
 use Rattle.cops_wire.specs.Answer.{IsShort}
 use Rattle.cops_wire.specs.Feeding.{IsStopped}
 use Rattle.cops_net.specs.declared.fault.NetFault.{NetFault}
@@ -19,7 +19,7 @@ use Rattle.cops_net.specs.Protocol.{phase, IsLegalIn, welcomes, AreCallsOf, AreS
 
 -- the bytes of messages, one after the other
 abbrev pub text : List Message → List ℕ
-text ms = flat_map spelled ms
+text ms = flat_map encoded ms
 
 abbrev pub is_bye : Message → Bool
 is_bye Bye = true
@@ -40,8 +40,8 @@ pub record Answered (format : Format) (ms : List Message) (input : List ℕ) (ca
   pub legal : AreSpoken format false ms calls
   pub read : input ≡ text ms ++ rest
   pub called : AreCallsOf format false ms calls
-  pub told : written ≡ text (replies format false ms calls)
-  pub told_legal : All (IsLegalIn format) (replies format false ms calls)
+  pub reported : written ≡ text (replies format false ms calls)
+  pub reported_legal : All (IsLegalIn format) (replies format false ms calls)
 
 -- The last message was taken and handed over as it should be, but only a part of its reply was written, and not all.
 pub record BrokeOff (format : Format) (ms : List Message) (last : Message) (input : List ℕ) (calls : List Call) (written rest : List ℕ) : Type 0 where
@@ -52,10 +52,10 @@ pub record BrokeOff (format : Format) (ms : List Message) (last : Message) (inpu
   pub last_reply : replies format false (ms ++ last ∷ []) calls ≡ replies format false ms calls ++ reply ∷ []
   pub part : List ℕ
   pub missing : List ℕ
-  pub parts_are : spelled reply ≡ part ++ missing
+  pub parts_are : encoded reply ≡ part ++ missing
   pub some_missing : missing ≢ []
-  pub told : written ≡ text (replies format false ms calls) ++ part
-  pub told_legal : All (IsLegalIn format) (replies format false (ms ++ last ∷ []) calls)
+  pub reported : written ≡ text (replies format false ms calls) ++ part
+  pub reported_legal : All (IsLegalIn format) (replies format false (ms ++ last ∷ []) calls)
 
 -- The session is over: the last message is the first that ends it, or the input ended after the last message.
 abbrev pub IsOver : Type 0 → List Message → List ℕ → Type 0
@@ -86,6 +86,6 @@ Serves format at_end input calls written (Err WriteFailed) =
     (ms : List Message) × (rest : List ℕ) × StaysOpen ms × ((last : Message) × BrokeOff format ms last input calls written rest)
 Serves format at_end input calls written (Err TurnLimit) =
     (ms : List Message) × (rest : List ℕ) × StaysOpen ms
-    × ((last : Message) × IsLegalIn (next_format format calls) last × Answered format ms input calls written (spelled last ++ rest))
+    × ((last : Message) × IsLegalIn (next_format format calls) last × Answered format ms input calls written (encoded last ++ rest))
     × (length ms ≡ MAX_MESSAGES)
 Serves format at_end input calls written (Err _) = ⊥

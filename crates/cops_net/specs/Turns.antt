@@ -5,7 +5,7 @@ use Rattle.cops_types.specs.declared.format.Format.{Format}
 use Rattle.cops_wire.specs.declared.message.Message.{Message}
 use Rattle.cops_wire.specs.declared.message.Message.TheVariants.{HelloOk}
 use Rattle.cops_wire.specs.Grammar.{grammar}
-use Rattle.cops_wire.specs.Message.{spelled}
+use Rattle.cops_wire.specs.Message.{encoded}
 use Rattle.cops_wire.specs.Answer.{IsShort}
 use Rattle.cops_wire.specs.Feeding.{IsStopped}
 use Rattle.cops_net.specs.declared.fault.NetFault.{NetFault}
@@ -28,16 +28,16 @@ pub record IsTurn (format : Format) (greeted : Bool) (m : Message) (calls : List
 
 -- What was taken in a format from the start of the bytes that came so far, and what is left of them: nothing is taken where they do not start with a
 -- whole frame.
-abbrev pub IsFront : Format → List ℕ → Result (Option Message) NetFault → List ℕ → Type 0
-IsFront format came (Ok (Some m)) rest = IsLegalIn format m × (came ≡ spelled m ++ rest)
-IsFront format came (Ok None) rest = IsShort (grammar format) came × (rest ≡ came)
-IsFront format came (Err Memory) rest = Unit {0}
-IsFront format came (Err (Wire fault)) rest = IsStopped (grammar format) came fault
-IsFront format came (Err _) rest = ⊥
+abbrev pub IsPrefix : Format → List ℕ → Result (Option Message) NetFault → List ℕ → Type 0
+IsPrefix format came (Ok (Some m)) rest = IsLegalIn format m × (came ≡ encoded m ++ rest)
+IsPrefix format came (Ok None) rest = IsShort (grammar format) came × (rest ≡ came)
+IsPrefix format came (Err Memory) rest = Unit {0}
+IsPrefix format came (Err (Wire fault)) rest = IsStopped (grammar format) came fault
+IsPrefix format came (Err _) rest = ⊥
 
 -- What was taken in a format from the start of an input, and what is left of it. `at_end` says that nothing comes after it.
 abbrev pub IsTaken : Format → Type 0 → List ℕ → Result (Option Message) NetFault → List ℕ → Type 0
-IsTaken format at_end input (Ok (Some m)) rest = IsLegalIn format m × (input ≡ spelled m ++ rest)
+IsTaken format at_end input (Ok (Some m)) rest = IsLegalIn format m × (input ≡ encoded m ++ rest)
 IsTaken format at_end input (Ok None) rest = (input ≡ []) × at_end
 IsTaken format at_end input (Err Memory) rest = Unit {0}
 IsTaken format at_end input (Err (Wire fault)) rest = IsWrong format at_end input fault
@@ -48,9 +48,9 @@ IsTaken format at_end input (Err _) rest = ⊥
 -- is greeted afterwards.
 abbrev pub IsAnswered : Format → Bool → Message → List Call → List ℕ → Result Bool NetFault → Type 0
 IsAnswered format greeted m calls written (Ok after) =
-    (reply : Message) × IsTurn format greeted m calls reply × (written ≡ spelled reply) × (after ≡ (greeted || list_any welcomes calls))
+    (reply : Message) × IsTurn format greeted m calls reply × (written ≡ encoded reply) × (after ≡ (greeted || list_any welcomes calls))
 IsAnswered format greeted m calls written (Err Memory) =
-    (written ≡ []) × ((calls ≡ []) ⊎ ((reply : Message) × IsTurn format greeted m calls reply × (spelled reply ≢ [])))
+    (written ≡ []) × ((calls ≡ []) ⊎ ((reply : Message) × IsTurn format greeted m calls reply × (encoded reply ≢ [])))
 IsAnswered format greeted m calls written (Err WriteFailed) =
-    (reply : Message) × IsTurn format greeted m calls reply × ((n : ℕ) × (n < length (spelled reply)) × (written ≡ take n (spelled reply)))
+    (reply : Message) × IsTurn format greeted m calls reply × ((n : ℕ) × (n < length (encoded reply)) × (written ≡ take n (encoded reply)))
 IsAnswered format greeted m calls written (Err _) = ⊥

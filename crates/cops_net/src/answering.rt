@@ -4,7 +4,7 @@ ghost use Rattle.std.specs.Io.KnownBytes.{Appends};
 ghost use Rattle.cops_types.specs.declared.format.Format.{Format as AFormat};
 ghost use Rattle.cops_net.specs.declared.reply.Call.{Call as ACall};
 ghost use Rattle.cops_net.specs.Answers.{IsWelcome, IsReplyIn, IsStanding};
-ghost use Rattle.cops_net.specs.Protocol.{seq_of, is_handed, Hands, told, welcome, outcome};
+ghost use Rattle.cops_net.specs.Protocol.{seq_of, is_handed, Hands, reported, welcome, outcome};
 ghost use Rattle.cops_net.specs.Protocol.{IsLegalIn, standing, capped, welcomes};
 ghost use Rattle.cops_net.specs.Turns.{is_welcome, IsTurn};
 
@@ -90,8 +90,8 @@ fn standing(seq: u32, status: Option<NodeStatus>) -> Message
 fn ask<R: Wait, S: Session>(rt: &R, session: &mut S, greeted: bool, message: Message) -> Message
     requires handed { is_handed (S.format session.old) greeted message ≡ true }
     requires room { S.has_room session.old }
-    ensures told { (call : ACall) × (S.calls session.new ≡ S.calls session.old ++ call ∷ [])
-        × Hands message call × (result ≡ told (seq_of message) call) × (is_welcome result ≡ welcomes call) }
+    ensures reported { (call : ACall) × (S.calls session.new ≡ S.calls session.old ++ call ∷ [])
+        × Hands message call × (result ≡ reported (seq_of message) call) × (is_welcome result ≡ welcomes call) }
     ensures legal { IsLegalIn (S.format session.old) result }
     ensures kept_format { S.format session.new ≡ S.format session.old }
     ensures ended { S.ended session.new ≡ S.ended session.old }

@@ -3,7 +3,7 @@ ghost use Rattle.std.specs.Prelude.{◌≡◌, ◌≢◌, ◌++◌, ◌+◌, ◌
 ghost use Rattle.std.specs.Io.KnownBytes.{Consumes, IsAtEnd};
 ghost use Rattle.cops_types.specs.Failures.{Failed};
 ghost use Rattle.cops_types.specs.Counted.{failures, inner};
-ghost use Rattle.cops_net.specs.Turns.{IsTaken, IsFront};
+ghost use Rattle.cops_net.specs.Turns.{IsTaken, IsPrefix};
 
 use crate::fault::NetFault;
 use cops_types::{Counted, Format, Memory};
@@ -40,7 +40,7 @@ impl Incoming {
     ///
     /// Errors: `Memory` when memory runs out; `Wire` where the bytes have a fault.
     fn front(&mut self) -> Result<Option<Message>, NetFault>
-        ensures front { IsFront self.old.feeder.format self.old.feeder.rest result self.new.feeder.rest }
+        ensures front { IsPrefix self.old.feeder.format self.old.feeder.rest result self.new.feeder.rest }
         ensures kept { self.new.feeder.format ≡ self.old.feeder.format }
         ensures whole { OnOk result (self.new.feeder.fault ≡ None) }
     {

@@ -75,7 +75,7 @@ pub trait Session {
     /// `UnknownClient` where there is no such client.
     fn hello(&mut self, client: u16) -> Result<(u8, u8), Refusal>
         requires { has_room self.old }
-        ensures told { calls self.new ≡ calls self.old ++ Call.Hello client result ∷ [] }
+        ensures reported { calls self.new ≡ calls self.old ++ Call.Hello client result ∷ [] }
         ensures answer { IsWelcome result }
         ensures done { hellos self.old client result self.new }
         ensures kept_format { format self.new ≡ format self.old }
@@ -85,7 +85,7 @@ pub trait Session {
     /// `NotInFormat`.
     fn put<R: Wait>(&mut self, rt: &R, key: Key, value: Value) -> Reply
         requires { has_room self.old }
-        ensures told { calls self.new ≡ calls self.old ++ Call.Put key value result ∷ [] }
+        ensures reported { calls self.new ≡ calls self.old ++ Call.Put key value result ∷ [] }
         ensures answer { IsPutReply result }
         ensures done { puts self.old key value result self.new }
         ensures kept_format { format self.new ≡ format self.old }
@@ -95,7 +95,7 @@ pub trait Session {
     /// `Memory`, `SessionFull` or `NotInFormat`.
     fn del<R: Wait>(&mut self, rt: &R, key: &Key) -> Reply
         requires { has_room self.old }
-        ensures told { calls self.new ≡ calls self.old ++ Call.Del key.now result ∷ [] }
+        ensures reported { calls self.new ≡ calls self.old ++ Call.Del key.now result ∷ [] }
         ensures answer { IsDelReply (format self.old) result }
         ensures done { dels self.old key.now result self.new }
         ensures kept_format { format self.new ≡ format self.old }
@@ -105,7 +105,7 @@ pub trait Session {
     /// `Refused` with `ContextFull`, `UnknownClient`, `Memory` or `SessionFull`.
     fn get<R: Wait>(&mut self, rt: &R, key: &Key) -> Reply
         requires { has_room self.old }
-        ensures told { calls self.new ≡ calls self.old ++ Call.Get key.now result ∷ [] }
+        ensures reported { calls self.new ≡ calls self.old ++ Call.Get key.now result ∷ [] }
         ensures answer { IsGetReply (format self.old) result }
         ensures done { gets self.old key.now result self.new }
         ensures kept_format { format self.new ≡ format self.old }
@@ -114,7 +114,7 @@ pub trait Session {
     /// Whether this put is settled in the client's data centre: `Yes`, `Wait`, or `Refused` with `Memory`.
     fn dep_check<R: Wait>(&mut self, rt: &R, key: &Key, version: Version) -> Reply
         requires { has_room self.old }
-        ensures told { calls self.new ≡ calls self.old ++ Call.DepCheck key.now version result ∷ [] }
+        ensures reported { calls self.new ≡ calls self.old ++ Call.DepCheck key.now version result ∷ [] }
         ensures answer { IsCheckReply result }
         ensures done { dep_checks self.old key.now version result self.new }
         ensures kept_format { format self.new ≡ format self.old }
@@ -124,7 +124,7 @@ pub trait Session {
     /// `None` where there is no such node.
     fn status<R: Wait>(&mut self, rt: &R, place: u8) -> Option<NodeStatus>
         requires { has_room self.old }
-        ensures told { calls self.new ≡ calls self.old ++ Call.Status place result ∷ [] }
+        ensures reported { calls self.new ≡ calls self.old ++ Call.Status place result ∷ [] }
         ensures answer { IsStanding result }
         ensures done { statuses self.old place result self.new }
         ensures kept_format { format self.new ≡ format self.old }

@@ -160,7 +160,7 @@ impl Records {
         for record in &self.records {
             match trace.push(record.client, record.op.clone()?) {
                 Ok(()) => {}
-                Err(fault) => return Err(want_of_memory(fault)),
+                Err(fault) => return Err(out_of_memory(fault)),
             }
         }
         Ok(trace)
@@ -168,7 +168,7 @@ impl Records {
 }
 
 /// The only fault that a trace can have that has the client and has room: out of memory.
-fn want_of_memory(fault: TypeFault) -> Memory
+fn out_of_memory(fault: TypeFault) -> Memory
     requires { fault ≡ TypeFault.Memory }
 {
     match fault {

@@ -21,7 +21,7 @@ use Rattle.cops_link.specs.declared.ends.LinkOut.{LinkOut}
 use Rattle.cops_replication.specs.Answers.{answer_to}
 use Rattle.cops_replication.specs.Doing.{advances, frames_taken, is_advance}
 use Rattle.cops_replication.specs.Shares.{Gains}
-use Rattle.cops_replication.specs.declared.arrival.Answer.TheVariants.{Marked as WasMarked, Settled as WasSettled}
+use Rattle.cops_replication.specs.declared.arrival.NodeAnswer.TheVariants.{Marked as WasMarked, Settled as WasSettled}
 
 -- ---- entries that count
 
@@ -52,8 +52,8 @@ not_of_node : (event : NodeEvent) (outcome : Outcome) → is_of_node outcome ≡
 not_of_node event (Refused refusal) is = refused_none event refusal
 not_of_node event outcome is = absurd cc
 
-told_one : (a b : Share) (node : ℕ) (event : NodeEvent) (outcome : Outcome) → Adds a.entries.items b.entries.items node event outcome → advances b ≡ advances a + cond (is_advance event outcome) 1 0
-told_one a b node event outcome adds =
+reported_one : (a b : Share) (node : ℕ) (event : NodeEvent) (outcome : Outcome) → Adds a.entries.items b.entries.items node event outcome → advances b ≡ advances a + cond (is_advance event outcome) 1 0
+reported_one a b node event outcome adds =
     elim (cases_Bool (is_of_node outcome)) [
       | inl answers ↦ one_more a b node event outcome (adds.0 answers)
       | inr none ↦ same_entries a b (adds.1 none) ∙ omega arith ∙ ap (λ (x : Bool). advances a + cond x 1 0) (sym (not_of_node event outcome none))
@@ -65,17 +65,17 @@ refused_one a b event outcome refusal same is =
     same_entries a b same ∙ omega arith ∙ ap (λ (x : Bool). advances a + cond x 1 0) (sym (ap (is_advance event) is ∙ refused_none event refusal))
 
 -- a step at the node of a version, if there is one
-pub advances_told : (c : Cluster) (dc place node : ℕ) (a b : Share) (event : NodeEvent) (outcome : Outcome)
+pub advances_reported : (c : Cluster) (dc place node : ℕ) (a b : Share) (event : NodeEvent) (outcome : Outcome)
     → (IsNode c dc place → Adds a.entries.items b.entries.items node event outcome) → ((IsNode c dc place → ⊥) → b.entries.items ≡ a.entries.items)
     → (c.place.dcs ≤ dc → outcome ≡ Refused UnknownDc) → (dc < c.place.dcs → length c.place.splits < place → outcome ≡ Refused NotHeld)
     → advances b ≡ advances a + cond (is_advance event outcome) 1 0
-advances_told c dc place node a b event outcome told none unknown not_held =
+advances_reported c dc place node a b event outcome reported none unknown not_held =
     elim (cases_lt dc c.place.dcs) [
       | inr above ↦ refused_one a b event outcome UnknownDc (none (λ node. absurd (omega (arith, above, node.0)))) (unknown above)
       | inl below ↦
           elim (cases_lt (length c.place.splits) place) [
             | inl far ↦ refused_one a b event outcome NotHeld (none (λ node. absurd (omega (arith, far, node.1)))) (not_held below far)
-            | inr near ↦ told_one a b node event outcome (told (below, omega (arith, near)))
+            | inr near ↦ reported_one a b node event outcome (reported (below, omega (arith, near)))
           ]
     ]
 

@@ -9,7 +9,7 @@ use Rattle.cops_cluster.specs.declared.share.Share.{Share}
 use Rattle.cops_replication.specs.Shares.{Gains}
 
 pub gains_nothing : (a b : Share) → b.holder ≡ a.holder → b.entries.items ≡ a.entries.items → Gains a b
-gains_nothing a b who same = record { holder = who; more = []; entries = same ∙ sym (append-nil a.entries.items) }
+gains_nothing a b owner same = record { holder = owner; more = []; entries = same ∙ sym (append-nil a.entries.items) }
 
 pub gains_refl : (a : Share) → Gains a a
 gains_refl a = gains_nothing a a refl refl
@@ -22,9 +22,9 @@ gains_trans a b c p q = record {
 }
 
 gains_entry : (a b : Share) → b.holder ≡ a.holder → (node : ℕ) (event : NodeEvent) (outcome : Outcome) → AddsEntry a.entries.items b.entries.items node event outcome → Gains a b
-gains_entry a b who node event outcome adds = record { holder = who; more = made node (entry adds.0 event outcome) ∷ []; entries = adds.1 }
+gains_entry a b owner node event outcome adds = record { holder = owner; more = made node (entry adds.0 event outcome) ∷ []; entries = adds.1 }
 
 -- one call of the cluster
 pub gains_one : (a b : Share) (node : ℕ) (event : NodeEvent) → b.holder ≡ a.holder → AddsAtMostOne a.entries.items b.entries.items node event → Gains a b
-gains_one a b node event who most =
-    elim most [ inl same ↦ gains_nothing a b who same | inr one ↦ gains_entry a b who node event one.0 one.1 ]
+gains_one a b node event owner most =
+    elim most [ inl same ↦ gains_nothing a b owner same | inr one ↦ gains_entry a b owner node event one.0 one.1 ]

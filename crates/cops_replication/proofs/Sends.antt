@@ -3,7 +3,7 @@ use Rattle.std.proofs.Common.{◌≡◌, ℕ, zero, suc, ◌+◌, ◌<◌, List,
 use Rattle.std.proofs.lemmas.List.{append-nil, drop_more, map-append, map-set, length-map}
 use Rattle.std.proofs.Math.ListN.{get_or-map}
 use Rattle.cops_types.specs.declared.put_record.PutRecord.{PutRecord}
-use Rattle.cops_link.specs.Frame.{spelled}
+use Rattle.cops_link.specs.Frame.{encoded}
 use Rattle.cops_link.specs.Link.{sent, SameIn}
 use Rattle.cops_link.specs.declared.ends.LinkIn.{LinkIn}
 use Rattle.cops_replication.specs.declared.outbox.Lane.{Lane}
@@ -29,14 +29,14 @@ sends_trans x y z p q = record {
 -- sending nothing on a lane
 pub sends_nothing : (puts : List PutRecord) (x : ALane) (a b : Lane) → Sends x (shown puts a) → SameIn a.link b.link → sent b.link ≡ sent a.link → b.next ≡ a.next → Sends x (shown puts b)
 sends_nothing puts x a b p same sents next =
-    let one : Sends (shown puts a) (shown puts b) = record { same = same; more = []; sent = sents ∙ sym (append-nil (sent a.link)); due = ap (λ n. map spelled (drop n puts)) (sym next) } in
+    let one : Sends (shown puts a) (shown puts b) = record { same = same; more = []; sent = sents ∙ sym (append-nil (sent a.link)); due = ap (λ n. map encoded (drop n puts)) (sym next) } in
     sends_trans x (shown puts a) (shown puts b) p one
 
 -- sending the frame of the next put on a lane
-pub sends_one : (puts : List PutRecord) (x : ALane) (a b : Lane) (put : PutRecord) → Sends x (shown puts a) → a.next < length puts → get_or puts a.next put ≡ put → SameIn a.link b.link → sent b.link ≡ sent a.link ++ spelled put ∷ [] → b.next ≡ a.next + 1 → Sends x (shown puts b)
+pub sends_one : (puts : List PutRecord) (x : ALane) (a b : Lane) (put : PutRecord) → Sends x (shown puts a) → a.next < length puts → get_or puts a.next put ≡ put → SameIn a.link b.link → sent b.link ≡ sent a.link ++ encoded put ∷ [] → b.next ≡ a.next + 1 → Sends x (shown puts b)
 sends_one puts x a b put p less is same sents next =
     let cut : drop a.next puts ≡ put ∷ drop b.next puts = drop_more puts a.next put less ∙ ap (λ q. q ∷ drop (a.next + 1) puts) is ∙ ap (λ n. put ∷ drop n puts) (sym next) in
-    let one : Sends (shown puts a) (shown puts b) = record { same = same; more = spelled put ∷ []; sent = sents; due = ap (λ l. map spelled l) cut } in
+    let one : Sends (shown puts a) (shown puts b) = record { same = same; more = encoded put ∷ []; sent = sents; due = ap (λ l. map encoded l) cut } in
     sends_trans x (shown puts a) (shown puts b) p one
 
 pub each_refl : (xs : List ALane) → EachSends xs xs
@@ -71,7 +71,7 @@ and_due_sends puts x y p = record {
   same = p.same;
   more = p.more;
   sent = p.sent;
-  due = ap (λ l. l ++ map spelled puts) p.due ∙ append_assoc p.more y.due (map spelled puts);
+  due = ap (λ l. l ++ map encoded puts) p.due ∙ append_assoc p.more y.due (map encoded puts);
 }
 
 pub each_and_due : (puts : List PutRecord) (xs ys : List ALane) → EachSends xs ys → EachSends (map (and_due puts) xs) (map (and_due puts) ys)
@@ -84,7 +84,7 @@ and_due_none : (x : ALane) → and_due [] x ≡ x
 and_due_none x = ap (λ l. let r : ALane = record { link = x.link; due = l } in r) (append-nil x.due)
 
 and_due_both : (p q : List PutRecord) (x : ALane) → and_due q (and_due p x) ≡ and_due (p ++ q) x
-and_due_both p q x = ap (λ l. let r : ALane = record { link = x.link; due = l } in r) (append_assoc x.due (map spelled p) (map spelled q) ∙ ap (λ l. x.due ++ l) (sym (map-append spelled p q)))
+and_due_both p q x = ap (λ l. let r : ALane = record { link = x.link; due = l } in r) (append_assoc x.due (map encoded p) (map encoded q) ∙ ap (λ l. x.due ++ l) (sym (map-append encoded p q)))
 
 all_none : (xs : List ALane) → map (and_due []) xs ≡ xs
 all_none [] = refl

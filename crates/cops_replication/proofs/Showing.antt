@@ -3,7 +3,7 @@ use Rattle.std.proofs.Common.{◌≡◌, ◌↔◌, Bool, IsTrue, ℕ, ◌+◌, 
 use Rattle.std.proofs.lemmas.List.{drop-append-le, drop-drop, drop_all, get_or-set_other, get_or-set_same, length-drop, length-map, map-append, map-set}
 use Rattle.std.proofs.lemmas.List.Elements.{All-cons, All-head, All-tail}
 use Rattle.cops_types.specs.declared.put_record.PutRecord.{PutRecord}
-use Rattle.cops_link.specs.Frame.{spelled}
+use Rattle.cops_link.specs.Frame.{encoded}
 use Rattle.cops_replication.specs.declared.outbox.Lane.{Lane}
 use Rattle.cops_replication.specs.Lanes.{ALane, IsClearOrFull, IsWithin, shown, and_due, counted_from, HasSentAll}
 
@@ -14,10 +14,10 @@ lane_of l due = record { link = l.link; due = due }
 pub shown_more : (puts more : List PutRecord) (ls : List Lane) → All (IsWithin puts) ls → map (shown (puts ++ more)) ls ≡ map (and_due more) (map (shown puts) ls)
 shown_more puts more [] within = refl
 shown_more puts more (l ∷ ls) within =
-    let first : map spelled (drop l.next (puts ++ more)) ≡ map spelled (drop l.next puts) ++ map spelled more =
-    ap (map spelled) (drop-append-le l.next puts more (All-head (IsWithin puts) l ls within)) ∙ map-append spelled (drop l.next puts) more in
+    let first : map encoded (drop l.next (puts ++ more)) ≡ map encoded (drop l.next puts) ++ map encoded more =
+    ap (map encoded) (drop-append-le l.next puts more (All-head (IsWithin puts) l ls within)) ∙ map-append encoded (drop l.next puts) more in
     ap (λ d. lane_of l d ∷ map (shown (puts ++ more)) ls) first
-    ∙ ap (λ r. lane_of l (map spelled (drop l.next puts) ++ map spelled more) ∷ r) (shown_more puts more ls (All-tail (IsWithin puts) l ls within))
+    ∙ ap (λ r. lane_of l (map encoded (drop l.next puts) ++ map encoded more) ∷ r) (shown_more puts more ls (All-tail (IsWithin puts) l ls within))
 
 -- dropping the first puts, which were sent on every lane, changes nothing that is due
 pub shown_from : (puts : List PutRecord) (first : ℕ) (ls : List Lane) → All (λ (l : Lane). first ≤ l.next) ls → map (shown (drop first puts)) (map (counted_from first) ls) ≡ map (shown puts) ls
@@ -26,7 +26,7 @@ shown_from puts first (l ∷ ls) sent =
     let le : first ≤ l.next = All-head (λ (x : Lane). first ≤ x.next) l ls sent in
     let next : first + (l.next - first) ≡ l.next = omega arith in
     let same : drop (l.next - first) (drop first puts) ≡ drop l.next puts = drop-drop (l.next - first) first puts ∙ ap (λ n. drop n puts) next in
-    ap (λ ps. lane_of l (map spelled ps) ∷ map (shown (drop first puts)) (map (counted_from first) ls)) same
+    ap (λ ps. lane_of l (map encoded ps) ∷ map (shown (drop first puts)) (map (counted_from first) ls)) same
     ∙ ap (λ r. shown puts l ∷ r) (shown_from puts first ls (All-tail (λ (x : Lane). first ≤ x.next) l ls sent))
 
 pub within_from : (puts : List PutRecord) (first : ℕ) (ls : List Lane) → All (IsWithin puts) ls → All (IsWithin (drop first puts)) (map (counted_from first) ls)
@@ -41,21 +41,21 @@ pub due_none : (puts : List PutRecord) (ls : List Lane) → All (λ (l : Lane). 
 due_none puts [] sent = λ k d less. absurd (omega (arith, less))
 due_none puts (l ∷ ls) sent =
     All-cons (λ (x : ALane). x.due ≡ []) (shown puts l) (map (shown puts) ls)
-    (ap (map spelled) (drop_all l.next puts (All-head (λ (x : Lane). length puts ≤ x.next) l ls sent)))
+    (ap (map encoded) (drop_all l.next puts (All-head (λ (x : Lane). length puts ≤ x.next) l ls sent)))
     (due_none puts ls (All-tail (λ (x : Lane). length puts ≤ x.next) l ls sent))
 
 -- each lane was sent all puts where nothing is due on any lane
 pub none_due : (puts : List PutRecord) (ls : List Lane) → HasSentAll (map (shown puts) ls) → All (λ (l : Lane). length puts ≤ l.next) ls
 none_due puts [] none = λ k d less. absurd (omega (arith, less))
 none_due puts (l ∷ ls) none =
-    let first : map spelled (drop l.next puts) ≡ [] = All-head (λ (x : ALane). x.due ≡ []) (shown puts l) (map (shown puts) ls) none in
-    let count : length puts ≤ l.next = omega (arith, sym (length-map (drop l.next puts) spelled) ∙ ap length first, length-drop l.next puts) in
+    let first : map encoded (drop l.next puts) ≡ [] = All-head (λ (x : ALane). x.due ≡ []) (shown puts l) (map (shown puts) ls) none in
+    let count : length puts ≤ l.next = omega (arith, sym (length-map (drop l.next puts) encoded) ∙ ap length first, length-drop l.next puts) in
     All-cons (λ (x : Lane). length puts ≤ x.next) l ls count (none_due puts ls (All-tail (λ (x : ALane). x.due ≡ []) (shown puts l) (map (shown puts) ls) none))
 
 -- how many puts were sent on each lane, in terms of what is due
 pub clear_is : (puts : List PutRecord) (ls same : List Lane) (n : ℕ) (all : List ALane) (b : Bool) → same ≡ ls → n ≡ length puts → map (shown puts) ls ≡ all → IsTrue b ↔ All (λ (l : Lane). n ≤ l.next) same → IsTrue b ↔ HasSentAll all
-clear_is puts ls same n all b is count view told =
-    let each : IsTrue b ↔ All (λ (l : Lane). length puts ≤ l.next) ls = subst (λ m. IsTrue b ↔ All (λ (l : Lane). m ≤ l.next) ls) count (subst (λ xs. IsTrue b ↔ All (λ (l : Lane). n ≤ l.next) xs) is told) in
+clear_is puts ls same n all b is count view reported =
+    let each : IsTrue b ↔ All (λ (l : Lane). length puts ≤ l.next) ls = subst (λ m. IsTrue b ↔ All (λ (l : Lane). m ≤ l.next) ls) count (subst (λ xs. IsTrue b ↔ All (λ (l : Lane). n ≤ l.next) xs) is reported) in
     (λ h. subst HasSentAll view (due_none puts ls (each.0 h)), λ h. each.1 (none_due puts ls (subst HasSentAll (sym view) h)))
 
 -- one more lane has nothing due, or is full

@@ -1,11 +1,11 @@
 -- The nodes' answers, reduced to what a receiver acts on.
 use Rattle.cops_node.specs.declared.outcome.Outcome.{Outcome}
 use Rattle.cops_node.specs.declared.outcome.Outcome.TheVariants.{Held, Repeat, Marked, Settled}
-use Rattle.cops_replication.specs.declared.arrival.Answer.{Answer}
-use Rattle.cops_replication.specs.declared.arrival.Answer.TheVariants.{Waits, Repeat as Repeats, Marked as WasMarked, Settled as WasSettled, Other}
+use Rattle.cops_replication.specs.declared.arrival.NodeAnswer.{NodeAnswer}
+use Rattle.cops_replication.specs.declared.arrival.NodeAnswer.TheVariants.{Waits, Repeat as Repeats, Marked as WasMarked, Settled as WasSettled, Other}
 
 -- the answer for an outcome
-abbrev pub answer_to : Outcome → Answer
+abbrev pub answer_to : Outcome → NodeAnswer
 answer_to Held = Waits
 answer_to Repeat = Repeats
 answer_to Marked = WasMarked

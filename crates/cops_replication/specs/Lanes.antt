@@ -1,7 +1,7 @@
 -- Links, each with the frames that have to be sent on it.
 use Rattle.std.specs.Prelude.{◌≡◌, ℕ, ◌+◌, ◌-◌, ◌≤◌, ◌⊎◌, List, [], ◌∷◌, ◌++◌, drop, length, map, replicate, sum_by}
 use Rattle.std.specs.List.{All, flat_map}
-use Rattle.cops_link.specs.Frame.{spelled}
+use Rattle.cops_link.specs.Frame.{encoded}
 use Rattle.cops_link.specs.Link.{known_room, sent, SameIn}
 use Rattle.cops_link.specs.declared.ends.LinkIn.{LinkIn}
 use Rattle.cops_types.specs.declared.put_record.PutRecord.{PutRecord}
@@ -14,7 +14,7 @@ pub record ALane : Type 0 where
 
 -- what is due on the lane's link: those of the puts that were not sent on it yet
 abbrev pub shown : List PutRecord → Lane → ALane
-shown puts l = record { link = l.link; due = map spelled (drop l.next puts) }
+shown puts l = record { link = l.link; due = map encoded (drop l.next puts) }
 
 -- no more puts were sent on it than there are
 abbrev pub IsWithin : List PutRecord → Lane → Type 0
@@ -34,7 +34,7 @@ repeated more xs = flat_map (replicate (more + 1)) xs
 
 -- the frames of these puts are due after all others
 abbrev pub and_due : List PutRecord → ALane → ALane
-and_due puts l = record { link = l.link; due = l.due ++ map spelled puts }
+and_due puts l = record { link = l.link; due = l.due ++ map encoded puts }
 
 -- on the same link the first frames that were due were sent, in order, and the others are still due
 pub record Sends (before after : ALane) : Type 0 where

@@ -17,7 +17,7 @@ IsCountOf all count = count ≡ min all 18446744073709551615
 -- the turn's result is how much was done, capped at the greatest number of 32 bits
 abbrev pub IsTurnOf : ℕ → Turn → Type 0
 IsTurnOf done Idle = done ≡ 0
-IsTurnOf done (Did told) = (0 < done) × (told ≡ min done 4294967295)
+IsTurnOf done (Did reported) = (0 < done) × (reported ≡ min done 4294967295)
 
 -- the gate may hold a step of a receiver at some node of this data centre
 abbrev pub MayHoldReceiver : (Point → Type 0) → Cluster → ℕ → Type 0

@@ -2,7 +2,7 @@
 ghost use Rattle.std.specs.Prelude.{◌≡◌, [], ◌∷◌, ◌++◌, IfNone, IfOk, IfSome};
 ghost use Rattle.cops_types.specs.declared.put_record.PutRecord.{PutRecord};
 ghost use Rattle.cops_wire.specs.Replicated.{put_after};
-ghost use Rattle.cops_link.specs.Frame.{spelled};
+ghost use Rattle.cops_link.specs.Frame.{encoded};
 ghost use Rattle.cops_link.specs.Link.{seen, taken};
 ghost use Rattle.cops_replication.specs.Receiving.{TakesUpTo};
 ghost use Rattle.cops_replication.specs.Answers.{answer_to};
@@ -14,7 +14,7 @@ use cops_wire::Message;
 
 /// What the receiver knows of a put that it took from a link.
 #[derive(Clone, Copy, PartialEq)]
-pub enum Stage {
+pub enum ArrivalState {
     /// The put still has to be delivered.
     Taken,
     /// The put still has to be delivered. A gate stopped an earlier delivery, whose answer is not known.
@@ -25,7 +25,7 @@ pub enum Stage {
 
 /// A node's answer, reduced to what a receiver acts on.
 #[derive(Clone, Copy)]
-pub enum Answer {
+pub enum NodeAnswer {
     Waits,
     Repeat,
     Marked,
@@ -37,21 +37,21 @@ pub enum Answer {
 #[derive(Drop)]
 pub struct Arrival {
     pub put: PutRecord,
-    pub stage: Stage,
+    pub state: ArrivalState,
 }
 
-impl Answer {
+impl NodeAnswer {
     /// The answer for an outcome; `Memory` where the outcome is a refusal because memory ran out.
     pub fn of(outcome: Outcome) -> Result<Self, Memory>
         ensures { IfOk result (λ answer. answer ≡ answer_to outcome) }
     {
         let is_memory = outcome.is_memory();
         let answer = match &outcome {
-            Outcome::Held => Answer::Waits,
-            Outcome::Repeat => Answer::Repeat,
-            Outcome::Marked => Answer::Marked,
-            Outcome::Settled => Answer::Settled,
-            _ => Answer::Other,
+            Outcome::Held => NodeAnswer::Waits,
+            Outcome::Repeat => NodeAnswer::Repeat,
+            Outcome::Marked => NodeAnswer::Marked,
+            Outcome::Settled => NodeAnswer::Settled,
+            _ => NodeAnswer::Other,
         };
         drop(outcome);
         if is_memory { Err(Memory) } else { Ok(answer) }
@@ -59,10 +59,10 @@ impl Answer {
 }
 
 /// Whether the put waits at its node after this answer to its delivery, given its stage before the delivery.
-pub fn waits(answer: Answer, stage: Stage) -> bool {
+pub fn waits(answer: NodeAnswer, state: ArrivalState) -> bool {
     match answer {
-        Answer::Waits => true,
-        Answer::Repeat => stage == Stage::Unknown,
+        NodeAnswer::Waits => true,
+        NodeAnswer::Repeat => state == ArrivalState::Unknown,
         _ => false,
     }
 }
@@ -70,7 +70,7 @@ pub fn waits(answer: Answer, stage: Stage) -> bool {
 /// Takes the next frame from the link, if there is one. Returns `Memory` when memory runs out.
 pub fn next_arrival(link: &mut LinkOut) -> Result<Option<Arrival>, Memory>
     ensures takes { TakesUpTo 1 link.old link.new }
-    ensures some { IfOk result (λ o. IfSome o (λ a. taken link.new ≡ taken link.old ++ spelled a.put ∷ [])) }
+    ensures some { IfOk result (λ o. IfSome o (λ a. taken link.new ≡ taken link.old ++ encoded a.put ∷ [])) }
     ensures none { IfOk result (λ o. IfNone o ((taken link.new ≡ taken link.old) × (seen link.new ≡ []))) }
 {
     match link.take()? {
@@ -106,6 +106,6 @@ fn arrival_of(message: Message) -> Arrival
     };
     Arrival {
         put,
-        stage: Stage::Taken,
+        state: ArrivalState::Taken,
     }
 }

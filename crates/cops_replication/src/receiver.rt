@@ -1,4 +1,4 @@
-use crate::arrival::{Answer, Arrival, Stage, next_arrival, waits};
+use crate::arrival::{Arrival, ArrivalState, NodeAnswer, next_arrival, waits};
 use crate::backlog::Backlog;
 use crate::turn::{Turn, TurnFault};
 use cops_cluster::{Asked, Cluster, Share, Yes};
@@ -167,14 +167,14 @@ impl Receiver {
         let Some(arrival) = &self.arrival else {
             return Ok(0);
         };
-        let stage = arrival.stage;
-        if stage == Stage::Waiting {
+        let state = arrival.state;
+        if state == ArrivalState::Waiting {
             return self.keep();
         }
         let copy = arrival.put.clone().or(Err(TurnFault::Memory))?;
         let answer = self.deliver(rt, cluster, gate, copy)?;
-        if waits(answer, stage) {
-            self.set_stage(Stage::Waiting);
+        if waits(answer, state) {
+            self.set_stage(ArrivalState::Waiting);
             return self.keep();
         }
         self.forget();
@@ -188,26 +188,26 @@ impl Receiver {
         cluster: &Cluster,
         gate: &G,
         copy: PutRecord,
-    ) -> Result<Answer, TurnFault>
+    ) -> Result<NodeAnswer, TurnFault>
         ensures same { IsSame self.old self.new }
         ensures share { Gains self.old.share self.new.share }
         ensures still { advances self.new.share ≡ advances self.old.share }
         ensures fault { IfErr result (IsFaultAt (G.may_hold gate.now) cluster.now self.old.dc) }
     {
         let Ok(outcome) = cluster.deliver(rt, &mut self.share, gate, self.dc, copy) else {
-            self.set_stage(Stage::Unknown);
+            self.set_stage(ArrivalState::Unknown);
             return Err(TurnFault::Held);
         };
-        let answer = Answer::of(outcome)?;
+        let answer = NodeAnswer::of(outcome)?;
         Ok(answer)
     }
 
-    fn set_stage(&mut self, stage: Stage)
+    fn set_stage(&mut self, state: ArrivalState)
         ensures same { IsSame self.old self.new }
         ensures share { self.new.share ≡ self.old.share }
     {
         if let Some(arrival) = &mut self.arrival {
-            arrival.stage = stage;
+            arrival.state = state;
         }
     }
 
@@ -288,7 +288,7 @@ impl Receiver {
                 marked
             }
             Asked::Other(outcome) => {
-                Answer::of(outcome)?;
+                NodeAnswer::of(outcome)?;
                 self.backlog.park()?;
                 Ok(0)
             }
@@ -314,10 +314,10 @@ impl Receiver {
         };
         let (version, dep) = (asked.version, asked.dep);
         let outcome = cluster.mark(rt, &mut self.share, gate, self.dc, version, dep, yes)?;
-        let answer = Answer::of(outcome)?;
+        let answer = NodeAnswer::of(outcome)?;
         self.backlog.mark();
         match answer {
-            Answer::Marked => Ok(1),
+            NodeAnswer::Marked => Ok(1),
             _ => Ok(0),
         }
     }
@@ -339,10 +339,10 @@ impl Receiver {
     {
         self.backlog.wake(version)?;
         let outcome = cluster.settle(rt, &mut self.share, gate, self.dc, version)?;
-        let answer = Answer::of(outcome)?;
+        let answer = NodeAnswer::of(outcome)?;
         self.backlog.settle(version);
         match answer {
-            Answer::Settled => Ok(1),
+            NodeAnswer::Settled => Ok(1),
             _ => Ok(0),
         }
     }

@@ -120,7 +120,7 @@ one_value h single sources put got key v w version p g = elim (content_cases v w
     no_source q s differs =
         let is : Some (read s.key s.content s.version) ≡ Some (read key w version) = sym s.got ∙ g in
         let value : s.content ≡ w = cc in
-        let bears : s.version ≡ version = cc in
+        let has_version : s.version ≡ version = cc in
         elim (name_cases q put) [
           | inl same ↦
               let at : Some (write s.key s.content s.version) ≡ Some (write key v version) = sym s.put ∙ ap (op_at h) same ∙ p in
@@ -130,7 +130,7 @@ one_value h single sources put got key v w version p g = elim (content_cases v w
             version = version;
             put = (key, v, p);
             other = q;
-            other_put = (s.key, s.content, rw bears at s.put);
+            other_put = (s.key, s.content, rw has_version at s.put);
             differs = other;
           })
         ]

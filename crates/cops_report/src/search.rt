@@ -72,7 +72,7 @@ fn mark_session(
 }
 
 /// Marks the puts that `mark.next` returned. `puts` are in order of versions and begin with those of its version.
-fn mark_bearers(
+fn mark_holders(
     history: &History,
     puts: &[VersionedPut],
     version: Version,
@@ -119,7 +119,7 @@ fn mark_sources(
     match history.got_version(mark.next) {
         Some(version) => {
             let bearers = from_version(puts, version);
-            mark_bearers(history, bearers, version, marks, names, mark)
+            mark_holders(history, bearers, version, marks, names, mark)
         }
         None => Ok(()),
     }

@@ -13,7 +13,7 @@ use Rattle.cops_core.specs.Opened.{AWorld, opened_world}
 use Rattle.cops_trace.specs.Text.{ATrace, IsTrace, sessions_after, sessions_of}
 use Rattle.cops_core.specs.declared.script.ScriptedClient.{ScriptedClient}
 use Rattle.cops_audit.specs.declared.verdict.Verdict.{Verdict}
-use Rattle.cops_command.specs.Told.{IsReportOf}
+use Rattle.cops_command.specs.Reported.{IsReportOf}
 use Rattle.cops_scenario.specs.Scenario.{AScenario, homes_of, setting_of}
 use Rattle.cops_run_stream.specs.declared.leaving.Left.{Left}
 use Rattle.cops_run_stream.specs.Lines.{outcome_lines}
@@ -42,7 +42,7 @@ answered_if s c d events (Err e) end law opened same legal ran = tt
 pub event_run : (s : AScenario) (events : List Event) (outcomes : List Outcome) (lines : List ℕ) (t : ATrace) (n : ℕ) → AreAnswers (setting_of s) events outcomes
     → n ≡ length s.clients → t ≡ record { format = s.format; clients = n; records = all_seen events outcomes } → lines ≡ outcome_lines outcomes
     → IsEventRun s events lines t × HasAcceptedVerdict (sessions_of t)
-event_run s events outcomes lines t n (end, ran, accepted) count trace told =
+event_run s events outcomes lines t n (end, ran, accepted) count trace reported =
     let records = all_seen events outcomes in
     let start = opening (setting_of s) in
     let homes : length (homes_of s) ≡ n = length-map s.clients (λ (k : ScriptedClient). k.at) ∙ sym count in
@@ -54,7 +54,7 @@ event_run s events outcomes lines t n (end, ran, accepted) count trace told =
         ran = ran;
         trace_is = trace ∙ ap (λ (k : ℕ). record { format = s.format; clients = k; records = records }) count;
         saw_these = saw_these;
-        lines_are = told;
+        lines_are = reported;
       },
       subst HasAcceptedVerdict saw_these accepted,
     )
@@ -66,7 +66,7 @@ if_ok_both (Err e) both p q = tt
 -- what a run produced, once its report was appended to its lines
 pub left_of : (s : AScenario) (left : Left) (t : ATrace) (lines : List ℕ) → IsRunOf s s.events lines t → HasAcceptedVerdict (sessions_of t) → (left.trace ≡ t) × IsTrace t
     → ((verdict : Verdict) × (report : List ℕ) × IsReportOf (sessions_of t) verdict report × (left.text.items ≡ lines ++ report)) → IsRunLeft s left
-left_of s left t lines ran accepted (same, legal) (verdict, report, is_report, told) =
+left_of s left t lines ran accepted (same, legal) (verdict, report, is_report, reported) =
     subst (λ (u : ATrace). IsLeft s u left.text.items) (sym same) (record {
       lines = lines;
       verdict = verdict;
@@ -75,5 +75,5 @@ left_of s left t lines ran accepted (same, legal) (verdict, report, is_report, t
       ran = ran;
       accepted = accepted;
       is_report = is_report;
-      told_is = told;
+      reported_is = reported;
     })

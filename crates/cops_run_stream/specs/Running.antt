@@ -18,9 +18,9 @@ use Rattle.cops_scenario.specs.File.{IsTextOf}
 use Rattle.cops_book.specs.declared.entry.Entry.{Entry}
 use Rattle.cops_tie.specs.declared.outcome.ClientOutcome.{ClientOutcome}
 use Rattle.cops_tie.specs.Runs.{IsRun}
-use Rattle.cops_command.specs.Scenario.{TellsNone}
+use Rattle.cops_command.specs.Scenario.{ReportsNone}
 use Rattle.cops_command.specs.Status.{number}
-use Rattle.cops_command.specs.Told.{IsReportOf}
+use Rattle.cops_command.specs.Reported.{IsReportOf}
 use Rattle.cops_command.specs.declared.status.Status.TheVariants.{Accepted, Faulty}
 use Rattle.cops_run_stream.specs.Lines.{outcome_lines, client_lines}
 
@@ -66,7 +66,7 @@ IsRunOf s None lines t = IsScriptRun s lines t
 IsRunOf s (Some events) lines t = IsEventRun s events lines t
 
 -- a run of the scenario with its trace, which is accepted, and its text: the lines, and then the report
-pub record IsLeft (s : AScenario) (t : ATrace) (told : List ℕ) : Type 0 where
+pub record IsLeft (s : AScenario) (t : ATrace) (reported : List ℕ) : Type 0 where
   pub lines : List ℕ
   pub verdict : Verdict
   pub report : List ℕ
@@ -74,23 +74,23 @@ pub record IsLeft (s : AScenario) (t : ATrace) (told : List ℕ) : Type 0 where
   pub ran : IsRunOf s s.events lines t
   pub accepted : HasAcceptedVerdict (sessions_of t)
   pub is_report : IsReportOf (sessions_of t) verdict report
-  pub told_is : told ≡ lines ++ report
+  pub reported_is : reported ≡ lines ++ report
 
 -- how it ends successfully: the bytes decode to a scenario, one writer gained the text of a run's trace, and the other the run's text
 pub record EndsWell (bytes : List ℕ) (trace_old trace_new old new : Option (List ℕ)) : Type 0 where
   pub scenario : AScenario
   pub trace : ATrace
-  pub told : List ℕ
+  pub reported : List ℕ
   pub is_text : IsTextOf bytes scenario
-  pub left : IsLeft scenario trace told
+  pub left : IsLeft scenario trace reported
   pub traced : Appends trace_old trace_new (text trace)
-  pub printed : Appends old new told
+  pub printed : Appends old new reported
 
 -- how it ends, by the status: `EndsWell` where it is accepted, and faulty where the bytes do not decode to a scenario; there is no other status
 abbrev pub EndsAs : List ℕ → ℕ → Option (List ℕ) → Option (List ℕ) → Option (List ℕ) → Option (List ℕ) → Type 0
 EndsAs bytes status trace_old trace_new old new =
     ((status ≡ number Accepted) × EndsWell bytes trace_old trace_new old new)
-    ⊎ ((status ≡ number Faulty) × TellsNone bytes × Keeps trace_old trace_new)
+    ⊎ ((status ≡ number Faulty) × ReportsNone bytes × Keeps trace_old trace_new)
 
 -- a proper prefix of a trace's text was written
 abbrev pub IsCut : Option (List ℕ) → Option (List ℕ) → Type 0

@@ -1,10 +1,10 @@
 //! What a run produces.
 ghost use Rattle.std.specs.Prelude.{◌≡◌, ◌++◌, List, ℕ, IfOk};
 ghost use Rattle.cops_audit.specs.declared.verdict.Verdict.{Verdict};
-ghost use Rattle.cops_command.specs.Told.{IsReportOf};
+ghost use Rattle.cops_command.specs.Reported.{IsReportOf};
 ghost use Rattle.cops_trace.specs.Text.{IsTrace, sessions_of};
 
-use cops_command::reported;
+use cops_command::report_of;
 use cops_trace::Trace;
 use cops_types::Memory;
 use std::alloc::Global;
@@ -22,6 +22,6 @@ pub(crate) fn reported_left(alloc: Global, lines: Vec<u8>, trace: Trace) -> Resu
     ensures text { IfOk result (λ left. (verdict : Verdict) × (report : List ℕ) × IsReportOf (sessions_of trace) verdict report × (left.text.items ≡ lines.items ++ report)) }
 {
     let mut text = lines;
-    text.extend_from_slice(&reported(alloc, trace.history())?)?;
+    text.extend_from_slice(&report_of(alloc, trace.history())?)?;
     Ok(Left { trace, text })
 }

@@ -3,7 +3,7 @@ ghost use Rattle.std.specs.Prelude.{◌≡◌, ◌≢◌, ◌++◌, ℕ, List, N
 ghost use Rattle.std.specs.Io.KnownBytes.{Appends};
 ghost use Rattle.cops_types.specs.Counted.{failures, inner};
 ghost use Rattle.cops_audit.specs.declared.verdict.Verdict.{Verdict};
-ghost use Rattle.cops_command.specs.Told.{IsReportOf};
+ghost use Rattle.cops_command.specs.Reported.{IsReportOf};
 ghost use Rattle.cops_trace.specs.Text.{IsTrace, sessions_of, text};
 ghost use Rattle.cops_clients.specs.Live.{IsCutFor, IsHeardFor};
 ghost use Rattle.cops_run_stream.specs.Lines.{client_line, client_lines};

@@ -79,16 +79,16 @@ where
     };
     if let Some(events) = scenario.events() {
         let mut trace = trace;
-        let status = tell_events(alloc, &scenario, events, &mut trace, out, errors);
+        let status = report_events(alloc, &scenario, events, &mut trace, out, errors);
         return Streamed { status, trace };
     }
     let Scripted { ran, trace } = run_scripts(rt, alloc, scenario, gate, trace);
-    let status = tell_scripts(alloc, ran, out, errors);
+    let status = report_scripts(alloc, ran, out, errors);
     Streamed { status, trace }
 }
 
 /// Runs the events, writes the trace of what the clients saw, prints the lines, and returns the exit status.
-fn tell_events<T: Write, W: Write, E: Write>(
+fn report_events<T: Write, W: Write, E: Write>(
     alloc: Global,
     scenario: &Scenario,
     events: &[Event],
@@ -111,7 +111,7 @@ fn tell_events<T: Write, W: Write, E: Write>(
 
 /// Prints the lines of a run whose trace is written, or why there is no run, and returns the exit status. Returns
 /// `Memory` only where the writer of the trace did not fail.
-fn tell_scripts<W: Write, E: Write>(
+fn report_scripts<W: Write, E: Write>(
     alloc: Global,
     ran: Result<Left, RunFault>,
     out: &mut Counted<W>,

@@ -19,10 +19,10 @@ fn is_accepted<R: Threads + Wait + Sync + AllocGlobal>(
     wanted: &[u8],
 ) -> Result<bool, StreamFault> {
     let mut reader = Counted::new(text);
-    let mut told = Counted::new(Vec::new(alloc));
-    let answer = audit_stream(rt, alloc, &mut reader, &mut told, 1, &OpenGate);
-    let is_told = told.into_inner().as_slice() == wanted;
-    Ok(matches!(answer?, Answer::Accepted) && is_told)
+    let mut reported = Counted::new(Vec::new(alloc));
+    let answer = audit_stream(rt, alloc, &mut reader, &mut reported, 1, &OpenGate);
+    let is_reported = reported.into_inner().as_slice() == wanted;
+    Ok(matches!(answer?, Answer::Accepted) && is_reported)
 }
 
 /// The number of operations in the trace of a run of a scenario's text, if both clients are done, and what was written.
@@ -67,16 +67,16 @@ fn deletions_are_written_and_audited(rt: HostRuntime) -> Result<(), Fail> {
 
 /// A gate that counts the answers to clients.
 #[derive(Drop)]
-struct Answers {
-    told: AtomicU64,
+struct LiveAnswers {
+    reported: AtomicU64,
 }
 
-impl Gate for Answers {
+impl Gate for LiveAnswers {
     ghost may_hold = { λ _ _. ⊥ };
 
     fn pass<R: Wait>(&self, _rt: &R, point: Point) -> Result<(), GateHeld> {
         if let Point::Answered { client: 0 | 1, .. } = point {
-            self.told.fetch_add(1, Ordering::SeqCst);
+            self.reported.fetch_add(1, Ordering::SeqCst);
         }
         Ok(())
     }
@@ -85,8 +85,8 @@ impl Gate for Answers {
 #[test]
 fn clients_end_though_a_write_failed(rt: HostRuntime) -> Result<(), Fail> {
     let scenario = scenario(rt.alloc(), TWO)?;
-    let gate = Answers {
-        told: AtomicU64::new(0),
+    let gate = LiveAnswers {
+        reported: AtomicU64::new(0),
     };
     let failing = FailingWriter::new(Vec::new(rt.alloc()), 1, u64::MAX, usize::MAX);
     let writer = Counted::new(failing);
@@ -99,7 +99,7 @@ fn clients_end_though_a_write_failed(rt: HostRuntime) -> Result<(), Fail> {
     assert!(rt; fault == Some(RunFault::WriteFailed { written: 9 }));
     assert!(rt; failures == 1);
     assert!(rt; is_head);
-    assert!(rt; gate.told.load(Ordering::SeqCst) == 4);
+    assert!(rt; gate.reported.load(Ordering::SeqCst) == 4);
     Ok(())
 }
 
@@ -122,12 +122,12 @@ impl Gate for Waits<'_> {
 
 /// A writer that reports its second write.
 #[derive(Drop)]
-struct Telling<'a> {
+struct Reporting<'a> {
     writes: u64,
     written: &'a AtomicBool,
 }
 
-impl Write for Telling<'_> {
+impl Write for Reporting<'_> {
     ghost use Rattle.std.specs.Prelude.{None};
 
     ghost contents = { λ _. None };
@@ -151,7 +151,7 @@ fn records_are_written_while_clients_run(rt: HostRuntime) -> Result<(), Fail> {
     let scenario = scenario(rt.alloc(), TWO)?;
     let written = AtomicBool::new(false);
     let gate = Waits { written: &written };
-    let writer = Counted::new(Telling {
+    let writer = Counted::new(Reporting {
         writes: 0,
         written: &written,
     });

@@ -5,7 +5,7 @@ use cops_types::Counted;
 use std::test::Fail;
 
 #[test]
-fn a_run_that_is_held_is_told(rt: HostRuntime) -> Result<(), Fail> {
+fn a_run_that_is_held_is_reported(rt: HostRuntime) -> Result<(), Fail> {
     let mut reader = Counted::new(TWO.as_bytes());
     let trace = Counted::new(Vec::new(rt.alloc()));
     let mut out = Counted::new(Vec::new(rt.alloc()));

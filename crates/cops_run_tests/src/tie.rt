@@ -55,7 +55,7 @@ fn are_entered(alloc: Global, book: &mut Book) -> Result<bool, TypeFault> {
 
 /// Holds whichever single allocation fails: no entry is made, and the event can be taken again.
 #[test]
-fn a_refused_growth_changes_nothing(rt: HostRuntime) -> Result<(), Fail> {
+fn a_refused_allocation_changes_nothing(rt: HostRuntime) -> Result<(), Fail> {
     let mut book = Book::open(rt.alloc(), 0);
     let are_entered = are_entered(rt.alloc(), &mut book);
     drop(book);

@@ -8,7 +8,7 @@ use Rattle.serde_json.specs.Find.{as_array}
 use Rattle.serde_json.specs.declared.value.Value.{Value}
 use Rattle.cops_core.specs.declared.script.ScriptedClient.{ScriptedClient}
 use Rattle.cops_fields.specs.Json.{text_json}
-use Rattle.cops_scenario.specs.File.{list_json, one_json, TellsClient, TellClients}
+use Rattle.cops_scenario.specs.File.{list_json, one_json, ReportsClient, ReportClients}
 
 items_alike : (xs ys : List Data) → items_of xs ≡ items_of ys → xs ≡ ys
 items_alike [] [] e = refl
@@ -62,17 +62,17 @@ no_such_item json P (v ∷ vs) (suc i) item (x ∷ xs) within is none e each =
 
 -- an item of a list encodes one of the clients that the list encodes
 pub no_such_client : (P : ScriptedClient → Type 0) (items : List Value) (i : ℕ) (item : Value) (cs : List ScriptedClient)
-    → i < length items → item ≡ get_or items i item → ((c : ScriptedClient) → P c → TellsClient (view item) c → ⊥) → TellClients (map view items) cs → All P cs → ⊥
-no_such_client P [] i item cs within is none told each = omega arith
-no_such_client P (v ∷ vs) i item [] within is none told each = told
-no_such_client P (v ∷ vs) zero item (c ∷ cs) within is none told each =
+    → i < length items → item ≡ get_or items i item → ((c : ScriptedClient) → P c → ReportsClient (view item) c → ⊥) → ReportClients (map view items) cs → All P cs → ⊥
+no_such_client P [] i item cs within is none reported each = omega arith
+no_such_client P (v ∷ vs) i item [] within is none reported each = reported
+no_such_client P (v ∷ vs) zero item (c ∷ cs) within is none reported each =
     let e : v ≡ item = sym is in
-    none c (All-head P c cs each) (rw e at told.0)
-no_such_client P (v ∷ vs) (suc i) item (c ∷ cs) within is none told each =
-    no_such_client P vs i item cs (omega arith) is none told.1 (All-tail P c cs each)
+    none c (All-head P c cs each) (rw e at reported.0)
+no_such_client P (v ∷ vs) (suc i) item (c ∷ cs) within is none reported each =
+    no_such_client P vs i item cs (omega arith) is none reported.1 (All-tail P c cs each)
 
-pub as_many : (ds : List Data) (cs : List ScriptedClient) → TellClients ds cs → length ds ≡ length cs
-as_many [] [] told = refl
-as_many [] (c ∷ cs) told = absurd told
-as_many (d ∷ ds) [] told = absurd told
-as_many (d ∷ ds) (c ∷ cs) told = ap suc (as_many ds cs told.1)
+pub as_many : (ds : List Data) (cs : List ScriptedClient) → ReportClients ds cs → length ds ≡ length cs
+as_many [] [] reported = refl
+as_many [] (c ∷ cs) reported = absurd reported
+as_many (d ∷ ds) [] reported = absurd reported
+as_many (d ∷ ds) (c ∷ cs) reported = ap suc (as_many ds cs reported.1)

@@ -4,7 +4,7 @@ use Rattle.std.specs.Option.{option_map_or}
 use Rattle.serde_json.specs.Data.{Data}
 use Rattle.serde_json.specs.Find.{get, as_number, as_u64}
 use Rattle.cops_scenario.specs.declared.fault.Field.{Field}
-use Rattle.cops_scenario.specs.declared.fault.Range.{Range}
+use Rattle.cops_scenario.specs.declared.fault.NumberRange.{NumberRange}
 use Rattle.cops_scenario.specs.declared.fault.Field.TheVariants.{Root, Format as FormatField, DataCentres, Splits, Link, Turns, Retries, Repeat, Hold, Clients, Events}
 use Rattle.cops_types.specs.declared.format.Format.{Format}
 use Rattle.cops_types.specs.declared.format.Format.TheVariants.{One}
@@ -27,7 +27,7 @@ name_of Clients = codes "clients"
 name_of Events = codes "events"
 
 -- the fields that are whole numbers, each with its range
-abbrev pub range_of : Field → Option Range
+abbrev pub range_of : Field → Option NumberRange
 range_of FormatField = Some (record { least = 1; most = MAX_FORMAT; missing = Some DEFAULT_FORMAT })
 range_of DataCentres = Some (record { least = 1; most = MAX_DCS; missing = None })
 range_of Link = Some (record { least = 1; most = MAX_LINK; missing = Some DEFAULT_LINK })

@@ -10,7 +10,7 @@ use thiserror::Error;
 
 /// The range of a field that is a whole number, and its default, if it may be missing.
 #[derive(Clone, Copy)]
-pub(crate) struct Range {
+pub(crate) struct NumberRange {
     pub(crate) least: u64,
     pub(crate) most: u64,
     pub(crate) missing: Option<u64>,
@@ -37,7 +37,7 @@ impl Field {
     ghost use Rattle.cops_scenario.specs.Fields.{name_of, range_of};
 
     /// The field's range, if it is a whole number.
-    pub(crate) fn range(self) -> Option<Range>
+    pub(crate) fn range(self) -> Option<NumberRange>
         ensures { result ≡ range_of self }
     {
         let (least, most, missing) = match self {
@@ -50,7 +50,7 @@ impl Field {
             Field::Hold => (0, u64::from(MAX_HOLD), Some(u64::from(DEFAULT_HOLD))),
             _ => return None,
         };
-        Some(Range {
+        Some(NumberRange {
             least,
             most,
             missing,

@@ -67,7 +67,7 @@ outcome_in other (Err held) = other
 
 -- what holds of a refusal holds of the outcome that is this refusal
 pub where_refused : (Says : Type 0) (result : Result Outcome GateHeld) (out : Outcome) (refused : Refusal) → result ≡ Ok out → (result ≡ Ok (Refused refused) → Says) → out ≡ Refused refused → Says
-where_refused Says result out refused is told e = told (is ∙ ap Ok e)
+where_refused Says result out refused is reported e = reported (is ∙ ap Ok e)
 
 pub some_refusal : (result : Result Outcome GateHeld) (out : Outcome) → result ≡ Ok out → (refused : Refusal) × (result ≡ Ok (Refused refused)) → (refused : Refusal) × (out ≡ Refused refused)
 some_refusal result out is (refused, e) = (refused, ap (outcome_in out) (sym is ∙ e))
@@ -94,12 +94,12 @@ del_in c client result out is unknown unfit version e =
 -- the reply to a write reports its outcome, in the format
 pub write_reply : (format : Format) (content : Option (List ℕ)) (out : Outcome) (reply : Reply) → IsWriteOutcome content out → IsOutcomeIn format out → IsReplyTo out reply
     → IsWriteReply format content reply
-write_reply format (Some value) (PutDone version) reply is fits told = rw told tt
-write_reply format (Some value) (Refused refused) reply is fits told = rw told is
-write_reply format (Some value) _ reply is fits told = elim is [ ]
-write_reply format None (Deleted version) reply is fits told = rw told (fits version refl)
-write_reply format None (Refused refused) reply is fits told = rw told is
-write_reply format None _ reply is fits told = elim is [ ]
+write_reply format (Some value) (PutDone version) reply is fits reported = rw reported tt
+write_reply format (Some value) (Refused refused) reply is fits reported = rw reported is
+write_reply format (Some value) _ reply is fits reported = elim is [ ]
+write_reply format None (Deleted version) reply is fits reported = rw reported (fits version refl)
+write_reply format None (Refused refused) reply is fits reported = rw reported is
+write_reply format None _ reply is fits reported = elim is [ ]
 
 -- a write is a put or a deletion
 pub either : (content : Option (List ℕ)) (out : Outcome) → IsWriteOutcome content out → IsPutOutcome out ⊎ IsDelOutcome out
@@ -113,10 +113,10 @@ no_get c key client = ((refl, refl, refl, refl), (λ h. absurd cc, λ h. refl), 
 -- a question with the share that was borrowed from the client
 pub asked_of : (c : Cluster) (dc : ℕ) (key : List ℕ) (version : ℕ) (out : Outcome) (client : Client) (lent after : Share) → lent ≡ client.share → after.holder ≡ lent.holder
     → Adds lent.entries.items after.entries.items (node_of c dc key) (Ask key version) out → HasAsked c dc key version out client (with_share client after)
-asked_of c dc key version out client lent after e who told = (
+asked_of c dc key version out client lent after e owner reported = (
   refl,
-  subst (λ (s : Share). after.holder ≡ s.holder) e who,
-  subst (λ (s : Share). Adds s.entries.items after.entries.items (node_of c dc key) (Ask key version) out) e told,
+  subst (λ (s : Share). after.holder ≡ s.holder) e owner,
+  subst (λ (s : Share). Adds s.entries.items after.entries.items (node_of c dc key) (Ask key version) out) e reported,
 )
 
 -- recording a call afterwards changes no client

@@ -17,17 +17,17 @@ Ended sessions bytes old new status = (status ≡ number Failed) ⊎ IfSome byte
 
 accepted : (sessions status : ℕ) (bytes : Option (List ℕ)) (s : AScenario) (old new : Option (List ℕ)) → IfSome bytes (λ (b : List ℕ). IsTextOf b s) → status ≡ number Accepted
     → (text : List ℕ) × IsServed sessions s text × Appends old new text → IfSome bytes (λ (b : List ℕ). EndsAs b sessions status old new)
-accepted sessions status None s old new told is printed = tt
-accepted sessions status (Some b) s old new told is printed = inl (is, (s, told, printed))
+accepted sessions status None s old new reported is printed = tt
+accepted sessions status (Some b) s old new reported is printed = inl (is, (s, reported, printed))
 
 pub ended : {E : Type 0} (sessions : ℕ) (served : Result ℕ E) (bytes : Option (List ℕ)) (s : AScenario) (old new : Option (List ℕ)) → IfSome bytes (λ (b : List ℕ). IsTextOf b s)
     → IfOk served (λ (status : ℕ). (status ≡ number Accepted) ⊎ (status ≡ number Failed)) → IfOk served (Printed sessions s old new) → IfOk served (Ended sessions bytes old new)
-ended sessions (Err e) bytes s old new told status printed = tt
-ended sessions (Ok st) bytes s old new told status printed =
+ended sessions (Err e) bytes s old new reported status printed = tt
+ended sessions (Ok st) bytes s old new reported status printed =
     elim status [
       | inl is ↦ elim printed [
         | inl failed ↦ inl failed
-        | inr text ↦ inr (accepted sessions st bytes s old new told is text)
+        | inr text ↦ inr (accepted sessions st bytes s old new reported is text)
       ]
       | inr failed ↦ inl failed
     ]

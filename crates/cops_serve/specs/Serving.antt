@@ -9,15 +9,15 @@ use Rattle.cops_core.specs.declared.event.Event.{Event}
 use Rattle.cops_core.specs.World.{Setting}
 use Rattle.cops_types.specs.Verdicts.{HasAcceptedVerdict}
 use Rattle.cops_audit.specs.declared.verdict.Verdict.{Verdict}
-use Rattle.cops_command.specs.Scenario.{TellsNone}
+use Rattle.cops_command.specs.Scenario.{ReportsNone}
 use Rattle.cops_command.specs.Status.{number}
-use Rattle.cops_command.specs.Told.{IsReportOf}
+use Rattle.cops_command.specs.Reported.{IsReportOf}
 use Rattle.cops_command.specs.declared.status.Status.TheVariants.{Accepted, Faulty}
 use Rattle.cops_scenario.specs.Scenario.{AScenario, setting_of}
 use Rattle.cops_scenario.specs.File.{IsTextOf}
 use Rattle.cops_book.specs.declared.entry.Entry.{Entry}
 use Rattle.cops_tie.specs.Untied.{IsTied}
-use Rattle.cops_cluster.specs.Close.{made_in, told}
+use Rattle.cops_cluster.specs.Close.{made_in, reported}
 use Rattle.cops_cluster.specs.declared.client.Client.{Client}
 use Rattle.cops_cluster.specs.declared.share.Made.{Made}
 use Rattle.cops_net.specs.Listening.{AreSessions, AreServed}
@@ -31,8 +31,8 @@ abbrev pub HasNodesOf : APlace → APlace → Type 0
 HasNodesOf wanted place = (place.dcs ≡ wanted.dcs) × (length place.splits ≡ length wanted.splits)
 
 -- the entries in the shares of a front end's clients and receivers
-abbrev pub told_to : FrontEnd → List Made
-told_to f = told (map (λ (c : Client). c.share) f.clients.items ++ map (λ (r : Receiver). r.share) f.receivers.items)
+abbrev pub reported_to : FrontEnd → List Made
+reported_to f = reported (map (λ (c : Client). c.share) f.clients.items ++ map (λ (r : Receiver). r.share) f.receivers.items)
 
 -- the report of what the clients saw, which is accepted, where these books are one run of the world with these sessions
 pub record IsTiedReport (s : Setting) (books : List (Vec Entry)) (text : List ℕ) : Type 0 where
@@ -46,7 +46,7 @@ pub record IsTiedReport (s : Setting) (books : List (Vec Entry)) (text : List �
 -- such a report in a scenario's world, where the books have exactly the entries in the shares of a front end's clients and receivers
 pub record IsReportOn (s : AScenario) (f : FrontEnd) (text : List ℕ) : Type 0 where
   pub books : List (Vec Entry)
-  pub same : IsPermutation (made_in (length s.place.splits + 1) 0 books) (told_to f)
+  pub same : IsPermutation (made_in (length s.place.splits + 1) 0 books) (reported_to f)
   pub report : IsTiedReport (setting_of s) books text
 
 -- The report of a front end that was opened for this scenario, and that served exactly `sessions` sessions: they came one after the other, each ended
@@ -64,4 +64,4 @@ pub record IsServed (sessions : ℕ) (s : AScenario) (text : List ℕ) : Type 0 
 abbrev pub EndsAs : List ℕ → ℕ → ℕ → Option (List ℕ) → Option (List ℕ) → Type 0
 EndsAs bytes sessions status old new =
     ((status ≡ number Accepted) × ((s : AScenario) × IsTextOf bytes s × ((text : List ℕ) × IsServed sessions s text × Appends old new text)))
-    ⊎ ((status ≡ number Faulty) × TellsNone bytes)
+    ⊎ ((status ≡ number Faulty) × ReportsNone bytes)

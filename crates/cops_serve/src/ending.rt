@@ -2,13 +2,13 @@
 ghost use Rattle.std.specs.Prelude.{◌≡◌, ◌+◌, ◌*◌, ◌++◌, ◌↔◌, length, map, IfOk, IsTrue};
 ghost use Rattle.std.specs.List.Sorted.{IsPermutation};
 ghost use Rattle.cops_scenario.specs.Scenario.{setting_of};
-ghost use Rattle.cops_cluster.specs.Close.{AreAll, made_in, told as told_in};
+ghost use Rattle.cops_cluster.specs.Close.{AreAll, made_in, reported as reported_in};
 ghost use Rattle.cops_serve.specs.Serving.{HasNodesOf, IsTiedReport};
 
 use crate::fault::ServeFault;
 use crate::front_end::FrontEnd;
 use cops_cluster::{Client, CloseFault, Closed, Cluster, Share};
-use cops_command::reported;
+use cops_command::report_of;
 use cops_core::Setting;
 use cops_replication::Receiver;
 use cops_scenario::Scenario;
@@ -47,7 +47,7 @@ impl FrontEnd {
             }
         };
         let closed = closed(cluster, shares)?;
-        told(alloc, scenario, &closed)
+        reported(alloc, scenario, &closed)
     }
 }
 
@@ -81,7 +81,7 @@ fn shares(
 fn closed(cluster: Cluster, shares: Vec<Share>) -> Result<Closed, ServeFault>
     requires all { AreAll cluster.clients cluster.place.dcs shares.items }
     ensures len { IfOk result (λ closed. length closed.books.items ≡ cluster.place.dcs * (length cluster.place.splits + 1)) }
-    ensures told { IfOk result (λ closed. IsPermutation (made_in (length cluster.place.splits + 1) 0 closed.books.items) (told_in shares.items)) }
+    ensures reported { IfOk result (λ closed. IsPermutation (made_in (length cluster.place.splits + 1) 0 closed.books.items) (reported_in shares.items)) }
 {
     match cluster.close(shares) {
         Ok(closed) => Ok(closed),
@@ -92,18 +92,18 @@ fn closed(cluster: Cluster, shares: Vec<Share>) -> Result<Closed, ServeFault>
 }
 
 /// The report of what a closed cluster's clients saw in a scenario's world.
-fn told(alloc: Global, scenario: &Scenario, closed: &Closed) -> Result<Vec<u8>, ServeFault>
+fn reported(alloc: Global, scenario: &Scenario, closed: &Closed) -> Result<Vec<u8>, ServeFault>
     requires { length closed.now.books.items ≡ scenario.now.place.dcs * (length scenario.now.place.splits + 1) }
     ensures { IfOk result (λ text. IsTiedReport (setting_of scenario.now) closed.now.books.items text.items) }
 {
     let setting = scenario.setting(alloc).or(Err(ServeFault::Memory))?;
-    let told = told_in(alloc, &setting, closed);
+    let reported = reported_in(alloc, &setting, closed);
     drop(setting);
-    told
+    reported
 }
 
-/// Like `told`, but takes the world's setting.
-fn told_in(alloc: Global, setting: &Setting, closed: &Closed) -> Result<Vec<u8>, ServeFault>
+/// Like `reported`, but takes the world's setting.
+fn reported_in(alloc: Global, setting: &Setting, closed: &Closed) -> Result<Vec<u8>, ServeFault>
     requires { length closed.now.books.items ≡ setting.now.place.dcs * (length setting.now.place.splits + 1) }
     ensures { IfOk result (λ text. IsTiedReport setting.now closed.now.books.items text.items) }
 {
@@ -112,7 +112,7 @@ fn told_in(alloc: Global, setting: &Setting, closed: &Closed) -> Result<Vec<u8>,
         Err(TieFault::Memory) => return Err(ServeFault::Memory),
         Err(TieFault::Untied { ticket }) => return Err(ServeFault::Untied { ticket }),
     }
-    match reported(alloc, closed.trace.history()) {
+    match report_of(alloc, closed.trace.history()) {
         Ok(report) => Ok(report),
         Err(Memory) => Err(ServeFault::Memory),
     }

@@ -26,16 +26,16 @@ pub(crate) struct Greeted {
 
 /// Memory reserved for the copies that a call makes after its step.
 #[derive(Drop)]
-pub(crate) struct Room {
+pub(crate) struct ReplyRoom {
     key: KeyRoom,
     value: ValueRoom,
 }
 
-impl Room {
-    fn new_in(format: Format, alloc: Global) -> Result<Room, AllocError>
+impl ReplyRoom {
+    fn new_in(format: Format, alloc: Global) -> Result<ReplyRoom, AllocError>
         ensures { IfOk result (λ room. room.value ≡ format) }
     {
-        Ok(Room {
+        Ok(ReplyRoom {
             key: KeyRoom::new(alloc)?,
             value: ValueRoom::new_in(format, alloc)?,
         })
@@ -56,7 +56,7 @@ pub struct FrontEnd {
     pub(crate) greeted: Option<Greeted>,
     pub(crate) calls: Vec<Call>,
     pub(crate) ended: u64,
-    pub(crate) room: Option<Room>,
+    pub(crate) room: Option<ReplyRoom>,
     pub(crate) alloc: Global,
     ghost in_format: { format ≡ cluster.format },
     ghost roomy: { ForSome room (λ r. r.value ≡ format) },
@@ -116,9 +116,9 @@ impl FrontEnd {
 
     /// The write of the client that has greeted, as a reply.
     fn write_reply<R: Wait>(&mut self, rt: &R, key: &Key, content: Option<&Value>) -> Replies
-        ensures twice { result.told ≡ result.kept }
-        ensures reply { IsWriteReply self.old.cluster.format (option_copied content.entry) result.told }
-        ensures done { Writes self.old key.now (option_copied content.entry) result.told self.new }
+        ensures twice { result.reported ≡ result.kept }
+        ensures reply { IsWriteReply self.old.cluster.format (option_copied content.entry) result.reported }
+        ensures done { Writes self.old key.now (option_copied content.entry) result.reported self.new }
         ensures same { IsUnnoted self.old self.new }
     {
         let outcome = self.write_outcome(rt, key, content);
@@ -152,9 +152,9 @@ impl FrontEnd {
     /// the cluster's question, which the client's share shows, or with not yet where no client has greeted. No other
     /// client changes.
     fn checked<R: Wait>(&mut self, rt: &R, key: &Key, version: Version) -> Replies
-        ensures twice { result.told ≡ result.kept }
-        ensures reply { IsCheckReply result.told }
-        ensures done { Checks self.old key.now version result.told self.new }
+        ensures twice { result.reported ≡ result.kept }
+        ensures reply { IsCheckReply result.reported }
+        ensures done { Checks self.old key.now version result.reported self.new }
         ensures same { IsUnnoted self.old self.new }
     {
         let Some(greeted) = self.greeted else {
@@ -224,7 +224,7 @@ impl Session for FrontEnd {
 
     fn room(&mut self) -> Result<(), Memory> {
         if self.room.is_none() {
-            self.room = Some(Room::new_in(self.format, self.alloc)?);
+            self.room = Some(ReplyRoom::new_in(self.format, self.alloc)?);
         }
         self.calls.reserve(1)?;
         Ok(())
@@ -247,7 +247,7 @@ impl Session for FrontEnd {
         let replies = self.write_reply(rt, &key, Some(&value));
         let answer = replies.kept;
         self.note(Call::Put { key, value, answer });
-        replies.told
+        replies.reported
     }
 
     fn del<R: Wait>(&mut self, rt: &R, key: &Key) -> Reply {
@@ -259,7 +259,7 @@ impl Session for FrontEnd {
             key: room.key.copy(key),
             answer: replies.kept,
         });
-        replies.told
+        replies.reported
     }
 
     fn get<R: Wait>(&mut self, rt: &R, key: &Key) -> Reply {
@@ -272,7 +272,7 @@ impl Session for FrontEnd {
             key: room.key.copy(key),
             answer: replies.kept,
         });
-        replies.told
+        replies.reported
     }
 
     fn dep_check<R: Wait>(&mut self, rt: &R, key: &Key, version: Version) -> Reply {
@@ -285,7 +285,7 @@ impl Session for FrontEnd {
             version,
             answer: replies.kept,
         });
-        replies.told
+        replies.reported
     }
 
     fn status<R: Wait>(&mut self, rt: &R, place: u8) -> Option<NodeStatus> {

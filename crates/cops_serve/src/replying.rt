@@ -16,23 +16,23 @@ use cops_types::{Format, Refusal, Value, ValueRoom, Version};
 #[derive(Drop)]
 pub(crate) struct Replies {
     pub(crate) kept: Reply,
-    pub(crate) told: Reply,
+    pub(crate) reported: Reply,
 }
 
 /// The replies that report the outcome of a put or a deletion.
 pub(crate) fn write_replies(outcome: &Outcome) -> Replies
     requires { IsPutOutcome outcome.now ⊎ IsDelOutcome outcome.now }
-    ensures same { result.told ≡ result.kept }
-    ensures told { IsReplyTo outcome.now result.told }
+    ensures same { result.reported ≡ result.kept }
+    ensures reported { IsReplyTo outcome.now result.reported }
 {
     match outcome {
         Outcome::PutDone(version) => Replies {
             kept: Reply::PutDone(*version),
-            told: Reply::PutDone(*version),
+            reported: Reply::PutDone(*version),
         },
         Outcome::Deleted(version) => Replies {
             kept: Reply::Deleted(*version),
-            told: Reply::Deleted(*version),
+            reported: Reply::Deleted(*version),
         },
         Outcome::Refused(refusal) => refused(*refusal),
         _ => unreachable!(),
@@ -44,16 +44,16 @@ pub(crate) fn write_replies(outcome: &Outcome) -> Replies
 pub(crate) fn get_replies(format: Format, room: ValueRoom, outcome: Outcome) -> Replies
     requires got { IsGetOutcome outcome }
     requires room { room ≡ format }
-    ensures same { result.told ≡ result.kept }
-    ensures told { IsReplyIn format outcome result.told }
-    ensures answer { IsGetReply format result.told }
+    ensures same { result.reported ≡ result.kept }
+    ensures reported { IsReplyIn format outcome result.reported }
+    ensures answer { IsGetReply format result.reported }
 {
     match outcome {
         Outcome::Got(value, version) => found(format, room, value, version),
         Outcome::Gone(version) => gone(format, version),
         Outcome::Missed => Replies {
             kept: Reply::Missed,
-            told: Reply::Missed,
+            reported: Reply::Missed,
         },
         Outcome::Refused(refusal) => refused(refusal),
         _ => unreachable!(),
@@ -63,9 +63,9 @@ pub(crate) fn get_replies(format: Format, room: ValueRoom, outcome: Outcome) -> 
 /// The replies to a get that found a value of this version.
 fn found(format: Format, room: ValueRoom, value: Value, version: Version) -> Replies
     requires { room ≡ format }
-    ensures same { result.told ≡ result.kept }
-    ensures told { IsReplyIn format (FoundValue value version) result.told }
-    ensures answer { IsGetReply format result.told }
+    ensures same { result.reported ≡ result.kept }
+    ensures reported { IsReplyIn format (FoundValue value version) result.reported }
+    ensures answer { IsGetReply format result.reported }
 {
     if !format.fits(Some(&value)) {
         drop(value);
@@ -74,46 +74,46 @@ fn found(format: Format, room: ValueRoom, value: Value, version: Version) -> Rep
     }
     Replies {
         kept: Reply::Got(room.copy(&value), version),
-        told: Reply::Got(value, version),
+        reported: Reply::Got(value, version),
     }
 }
 
 /// The replies to a get that found a deletion of this version.
 fn gone(format: Format, version: Version) -> Replies
-    ensures same { result.told ≡ result.kept }
-    ensures told { IsReplyIn format (FoundGone version) result.told }
-    ensures answer { IsGetReply format result.told }
+    ensures same { result.reported ≡ result.kept }
+    ensures reported { IsReplyIn format (FoundGone version) result.reported }
+    ensures answer { IsGetReply format result.reported }
 {
     match format {
         Format::One => refused(Refusal::Memory),
         Format::Two => Replies {
             kept: Reply::Gone(version),
-            told: Reply::Gone(version),
+            reported: Reply::Gone(version),
         },
     }
 }
 
 /// The replies that report a refusal.
 fn refused(refusal: Refusal) -> Replies
-    ensures { (result.kept ≡ Answer.Refused refusal) × (result.told ≡ Answer.Refused refusal) }
+    ensures { (result.kept ≡ Answer.Refused refusal) × (result.reported ≡ Answer.Refused refusal) }
 {
     Replies {
         kept: Reply::Refused(refusal),
-        told: Reply::Refused(refusal),
+        reported: Reply::Refused(refusal),
     }
 }
 
 /// The replies that report the outcome of the question whether a pair is settled.
 pub(crate) fn check_replies(asked: &Asked) -> Replies
     requires { IsAskOutcome (outcome_of asked.now) }
-    ensures same { result.told ≡ result.kept }
-    ensures told { IsReplyTo (outcome_of asked.now) result.told }
-    ensures answer { IsCheckReply result.told }
+    ensures same { result.reported ≡ result.kept }
+    ensures reported { IsReplyTo (outcome_of asked.now) result.reported }
+    ensures answer { IsCheckReply result.reported }
 {
     match asked {
         Asked::Yes(_) => Replies {
             kept: Reply::Yes,
-            told: Reply::Yes,
+            reported: Reply::Yes,
         },
         Asked::Other(outcome) => outcome_replies(outcome),
     }
@@ -122,14 +122,14 @@ pub(crate) fn check_replies(asked: &Asked) -> Replies
 /// The replies that report this outcome of the question whether a pair is settled.
 fn outcome_replies(outcome: &Outcome) -> Replies
     requires { IsAskOutcome outcome.now }
-    ensures same { result.told ≡ result.kept }
-    ensures told { IsReplyTo outcome.now result.told }
-    ensures answer { IsCheckReply result.told }
+    ensures same { result.reported ≡ result.kept }
+    ensures reported { IsReplyTo outcome.now result.reported }
+    ensures answer { IsCheckReply result.reported }
 {
     match outcome {
         Outcome::Yes => Replies {
             kept: Reply::Yes,
-            told: Reply::Yes,
+            reported: Reply::Yes,
         },
         Outcome::Wait => not_yet(),
         Outcome::Refused(refusal) => refused(*refusal),
@@ -139,12 +139,12 @@ fn outcome_replies(outcome: &Outcome) -> Replies
 
 /// The replies where a pair is not settled yet.
 pub(crate) fn not_yet() -> Replies
-    ensures same { result.told ≡ result.kept }
-    ensures told { IsReplyTo NotYet result.told }
-    ensures answer { IsCheckReply result.told }
+    ensures same { result.reported ≡ result.kept }
+    ensures reported { IsReplyTo NotYet result.reported }
+    ensures answer { IsCheckReply result.reported }
 {
     Replies {
         kept: Reply::Wait,
-        told: Reply::Wait,
+        reported: Reply::Wait,
     }
 }

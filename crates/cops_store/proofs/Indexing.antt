@@ -9,7 +9,7 @@ use Rattle.std.specs.Str.{bytes_eq}
 use Rattle.std.proofs.lemmas.List.{length-map, map-append}
 use Rattle.std.proofs.lemmas.Option.{slice_get-map}
 use Rattle.std.proofs.lemmas.Slice.Eq.{bytes_eq-Decides}
-use Rattle.cops_store.specs.declared.place.Place.{Place}
+use Rattle.cops_store.specs.declared.place.KeyPlace.{KeyPlace}
 use Rattle.cops_store.specs.declared.settled.Settled.{Settled}
 use Rattle.cops_store.specs.declared.settled.Settled.TheVariants.{Shown, Older, Repeat}
 use Rattle.cops_store.specs.Places.{pick, chosen}
@@ -41,7 +41,7 @@ shown_at keys pairs key at h e =
 pub missed_at : (keys : Keys) (pairs : Pairs) (key : List ℕ) (at : ℕ) → IsIndex keys pairs → Some at ≡ lookup (bytes_eq key) keys → None ≡ slice_get pairs at → shown (settled_in keys pairs) key ≡ None
 missed_at keys pairs key at h e none = shown_at keys pairs key at h e ∙ ap (option_map (stored_at keys)) (sym none)
 
-pub got : (keys : Keys) (pairs : Pairs) (key : List ℕ) (at : ℕ) (p : Place × Option (List ℕ)) → IsIndex keys pairs → Some at ≡ lookup (bytes_eq key) keys → Some p ≡ slice_get pairs at
+pub got : (keys : Keys) (pairs : Pairs) (key : List ℕ) (at : ℕ) (p : KeyPlace × Option (List ℕ)) → IsIndex keys pairs → Some at ≡ lookup (bytes_eq key) keys → Some p ≡ slice_get pairs at
     → shown (settled_in keys pairs) key ≡ Some (record { key = key; value = p.1; version = p.0.version })
 got keys pairs key at p h e there =
     let is : shown (settled_in keys pairs) key ≡ Some (stored_at keys p) = shown_at keys pairs key at h e ∙ ap (option_map (stored_at keys)) (sym there) in
@@ -73,7 +73,7 @@ module _ (keys : Keys) (pairs : Pairs) (key : List ℕ) (value : Option (List �
   abbrev one : Stored
   one = record { key = key; value = value; version = version }
 
-  abbrev place : Place
+  abbrev place : KeyPlace
   place = record { key = place_in keys key; version = version }
 
   abbrev at_key : Option ℕ
@@ -108,10 +108,10 @@ module _ (keys : Keys) (pairs : Pairs) (key : List ℕ) (value : Option (List �
       stored : slice_get old at ≡ option_map (stored_at keys) (slice_get pairs at)
       stored = slice_get-map (stored_at keys) pairs at
 
-      from : (p : Place × Option (List ℕ)) → slice_get pairs at ≡ Some p → shown old key ≡ Some (stored_at keys p)
+      from : (p : KeyPlace × Option (List ℕ)) → slice_get pairs at ≡ Some p → shown old key ≡ Some (stored_at keys p)
       from p e = s.1 ∙ stored ∙ ap (option_map (stored_at keys)) e
 
-      by : (p : Place × Option (List ℕ)) → slice_get pairs at ≡ Some p → (b : Bool) → nat_lt version p.0.version ≡ b
+      by : (p : KeyPlace × Option (List ℕ)) → slice_get pairs at ≡ Some p → (b : Bool) → nat_lt version p.0.version ≡ b
           → ((pick b at (length pairs)).0 ≡ shown_or_older one (shown old key)) × ShowsAt (old ++ one ∷ []) key (Some (pick b at (length pairs)).1)
       by p e true lt = (
         sym (ap (shown_or_older one) (from p e) ∙ ap (λ c. cond c Older Shown) lt),
@@ -125,7 +125,7 @@ module _ (keys : Keys) (pairs : Pairs) (key : List ℕ) (value : Option (List �
         (last_within, shown_new ∙ ap (λ t. Some (later t one)) (from p e) ∙ ap (λ c. Some (cond c (stored_at keys p) one)) lt ∙ sym last_place),
       )
 
-      go : (o : Option (Place × Option (List ℕ))) → slice_get pairs at ≡ o → IsRight (Some at)
+      go : (o : Option (KeyPlace × Option (List ℕ))) → slice_get pairs at ≡ o → IsRight (Some at)
       go None e = absurd (let there = slice_there old at s.0 in let gone = ap is_some (stored ∙ ap (option_map (stored_at keys)) e) in let f : true ≡ false = sym there ∙ gone in cc)
       go (Some p) e = rw e (by p e (nat_lt version p.0.version) refl)
 
@@ -190,23 +190,23 @@ module _ (keys : Keys) (pairs : Pairs) (key : List ℕ) (value : Option (List �
         ∙ sym (ap (λ b. cond b old (old ++ one ∷ [])) new)
 
   -- the pair is new to the map of pairs
-  pub none_there_yet : has_pair old (record { key = key; version = version }) ≡ false → lookup (λ (q : Place). nat_eq (place_in keys key) q.key && nat_eq version q.version) pairs ≡ None
+  pub none_there_yet : has_pair old (record { key = key; version = version }) ≡ false → lookup (λ (q : KeyPlace). nat_eq (place_in keys key) q.key && nat_eq version q.version) pairs ≡ None
   none_there_yet new = none_there _ (sym (found_pair keys pairs key (place_in keys key) version (is_at keys key h.distinct) h.placed ∙ new))
 
   -- the result is right
   pub answer_after : has_pair old (record { key = key; version = version }) ≡ false → (chosen pairs version at_key).0 ≡ settling old one
   answer_after new = right.0 ∙ sym (ap (λ b. cond b Repeat (shown_or_older one (shown old key))) new)
 
-  abbrev with_pair : Pairs → Place → Option (List ℕ) → Pairs
-  with_pair es p v = insert_entry (λ (a b : Place). nat_eq a.key b.key && nat_eq a.version b.version) es p v
+  abbrev with_pair : Pairs → KeyPlace → Option (List ℕ) → Pairs
+  with_pair es p v = insert_entry (λ (a b : KeyPlace). nat_eq a.key b.key && nat_eq a.version b.version) es p v
 
-  new_last : (es : Pairs) (p : Place) (v : Option (List ℕ)) → lookup (λ (q : Place). nat_eq p.key q.key && nat_eq p.version q.version) es ≡ None
+  new_last : (es : Pairs) (p : KeyPlace) (v : Option (List ℕ)) → lookup (λ (q : KeyPlace). nat_eq p.key q.key && nat_eq p.version q.version) es ≡ None
       → with_pair es p v ≡ es ++ (p, v) ∷ []
   new_last [] p v e = refl
   new_last (x ∷ es) p v e = go (nat_eq p.key x.0.key && nat_eq p.version x.0.version) e (λ r. new_last es p v r)
     where
-      go : (b : Bool) → cond b (Some x.1) (lookup (λ (q : Place). nat_eq p.key q.key && nat_eq p.version q.version) es) ≡ None
-          → (lookup (λ (q : Place). nat_eq p.key q.key && nat_eq p.version q.version) es ≡ None → with_pair es p v ≡ es ++ (p, v) ∷ [])
+      go : (b : Bool) → cond b (Some x.1) (lookup (λ (q : KeyPlace). nat_eq p.key q.key && nat_eq p.version q.version) es) ≡ None
+          → (lookup (λ (q : KeyPlace). nat_eq p.key q.key && nat_eq p.version q.version) es ≡ None → with_pair es p v ≡ es ++ (p, v) ∷ [])
           → cond b ((x.0, v) ∷ es) (x ∷ with_pair es p v) ≡ x ∷ es ++ (p, v) ∷ []
       go true e rest = absurd cc
       go false e rest = ap (λ r. x ∷ r) (rest e)
@@ -216,5 +216,5 @@ module _ (keys : Keys) (pairs : Pairs) (key : List ℕ) (value : Option (List �
       → pairs' ≡ with_pair pairs (record { key = at; version = version }) value
       → pairs' ≡ pairs ++ (place, value) ∷ []
   with_pair_at new pairs' at e added =
-      added ∙ ap (λ n. with_pair pairs (let p : Place = record { key = n; version = version } in p) value) e
+      added ∙ ap (λ n. with_pair pairs (let p : KeyPlace = record { key = n; version = version } in p) value) e
       ∙ new_last pairs place value (none_there_yet new)

@@ -9,7 +9,7 @@ use Rattle.std.specs.Str.{bytes_eq}
 use Rattle.std.proofs.lemmas.Slice.Eq.{bytes_eq-Decides}
 use Rattle.std.proofs.lemmas.Map.Entries.{length-keys_of}
 use Rattle.indexmap.specs.IndexMap.{insert_entry}
-use Rattle.cops_store.specs.declared.place.Place.{Place}
+use Rattle.cops_store.specs.declared.place.KeyPlace.{KeyPlace}
 use Rattle.cops_store.specs.Store.{has_pair}
 use Rattle.cops_store.specs.Index.{Keys, Pairs, key_at, stored_at, settled_in}
 
@@ -52,7 +52,7 @@ at_only (x ∷ names) key d j l = go (bytes_eq key x) refl j l (λ i h. at_only 
 
 -- each pair's key has a place
 abbrev pub ArePlaced : Keys → Pairs → Type 0
-ArePlaced keys pairs = AllByRecursion (λ (p : Place × Option (List ℕ)). p.0.key < length keys) pairs
+ArePlaced keys pairs = AllByRecursion (λ (p : KeyPlace × Option (List ℕ)). p.0.key < length keys) pairs
 
 -- a key's pairs are those at its place
 abbrev pub IsAt : Keys → List ℕ → ℕ → Type 0
@@ -67,11 +67,11 @@ some_cond false x o = refl
 
 -- the pair at a key's place is found exactly where it is settled
 pub found_pair : (keys : Keys) (pairs : Pairs) (key : List ℕ) (at version : ℕ) → IsAt keys key at → ArePlaced keys pairs
-    → is_some (lookup (λ (q : Place). nat_eq at q.key && nat_eq version q.version) pairs) ≡ has_pair (settled_in keys pairs) (record { key = key; version = version })
+    → is_some (lookup (λ (q : KeyPlace). nat_eq at q.key && nat_eq version q.version) pairs) ≡ has_pair (settled_in keys pairs) (record { key = key; version = version })
 found_pair keys [] key at version h placed = refl
 found_pair keys (p ∷ pairs) key at version h placed =
-    some_cond (nat_eq at p.0.key && nat_eq version p.0.version) p.1 (lookup (λ (q : Place). nat_eq at q.key && nat_eq version q.version) pairs)
-    ∙ ap (λ b. (b && nat_eq version p.0.version) || is_some (lookup (λ (q : Place). nat_eq at q.key && nat_eq version q.version) pairs)) (sym (h p.0.key placed.0))
+    some_cond (nat_eq at p.0.key && nat_eq version p.0.version) p.1 (lookup (λ (q : KeyPlace). nat_eq at q.key && nat_eq version q.version) pairs)
+    ∙ ap (λ b. (b && nat_eq version p.0.version) || is_some (lookup (λ (q : KeyPlace). nat_eq at q.key && nat_eq version q.version) pairs)) (sym (h p.0.key placed.0))
     ∙ ap (λ b. (bytes_eq key (key_at keys p.0.key) && nat_eq version p.0.version) || b) (found_pair keys pairs key at version h placed.1)
 
 -- the keys with one more, which is appended unless it is there already
@@ -130,6 +130,6 @@ settled_kept keys key shown (p ∷ pairs) placed =
     let rest = settled_kept keys key shown pairs placed.1 in
     λ i. here i ∷ rest i
 
-pub placed_on : (keys keys' : Keys) (pairs : Pairs) → length keys ≤ length keys' → ArePlaced keys pairs → (p : Place × Option (List ℕ)) → p.0.key < length keys' → ArePlaced keys' (pairs ++ p ∷ [])
+pub placed_on : (keys keys' : Keys) (pairs : Pairs) → length keys ≤ length keys' → ArePlaced keys pairs → (p : KeyPlace × Option (List ℕ)) → p.0.key < length keys' → ArePlaced keys' (pairs ++ p ∷ [])
 placed_on keys keys' [] h placed p l = (l, tt)
 placed_on keys keys' (q ∷ pairs) h placed p l = (let a = placed.0 in omega (arith, a, h), placed_on keys keys' pairs h placed.1 p l)

@@ -1,7 +1,7 @@
 ghost use Rattle.std.specs.Prelude.{◌≡◌, slice_get};
 ghost use Rattle.cops_store.specs.Places.{is_above, chosen};
 
-use crate::place::Place;
+use crate::place::KeyPlace;
 use crate::settled::Settled;
 use cops_types::{Key, Memory, Value, Version};
 use indexmap::IndexMap;
@@ -14,7 +14,7 @@ use std::marker::Model;
 pub struct Store {
     /// Each key with the place of the pair that it shows.
     keys: IndexMap<Key, usize>,
-    pairs: IndexMap<Place, Option<Value>>,
+    pairs: IndexMap<KeyPlace, Option<Value>>,
 }
 
 impl Model for Store {
@@ -51,7 +51,7 @@ impl Store {
         ensures { result ≡ has_pair self.now.settled (record { key = key.now; version = version }) }
     {
         match self.keys.get_index_of(key) {
-            Some(at) => self.pairs.contains_key(&Place { key: at, version }),
+            Some(at) => self.pairs.contains_key(&KeyPlace { key: at, version }),
             None => false,
         }
     }
@@ -125,7 +125,7 @@ impl Store {
         let (at, _) = self.keys.insert_full(key, shown).unwrap();
         let _none = self
             .pairs
-            .insert(Place { key: at, version }, value)
+            .insert(KeyPlace { key: at, version }, value)
             .unwrap();
         settled
     }
@@ -134,7 +134,7 @@ impl Store {
 /// The result of settling a new pair, and the place of the pair that its key shows afterwards, from the place of the
 /// pair that it shows now.
 fn chosen(
-    pairs: &IndexMap<Place, Option<Value>>,
+    pairs: &IndexMap<KeyPlace, Option<Value>>,
     shown: Option<usize>,
     version: Version,
 ) -> (Settled, usize)
@@ -147,7 +147,7 @@ fn chosen(
 }
 
 /// Whether the pair at this place has a greater version.
-fn is_above(pairs: &IndexMap<Place, Option<Value>>, at: usize, version: Version) -> bool
+fn is_above(pairs: &IndexMap<KeyPlace, Option<Value>>, at: usize, version: Version) -> bool
     ensures { result ≡ is_above version (slice_get pairs.now.entries at) }
 {
     match pairs.get_index(at) {

@@ -3,20 +3,20 @@ use Rattle.std.proofs.Common.{◌≡◌, ℕ, List, Option, Some, None, IfSome, 
 use Rattle.cops_trace.specs.Text.{ATrace, text}
 use Rattle.cops_trace.specs.Converting.{Converts, IsConverted, SayOne, in_format_2}
 use Rattle.cops_trace.proofs.Keeping.{trace_in_2}
-use Rattle.cops_stream.specs.Audit.{AuditSays, IsTold}
+use Rattle.cops_stream.specs.Audit.{AuditSays, IsReported}
 use Rattle.cops_stream.specs.Convert.{AreAuditedAlike, ConvertsAlike}
 use Rattle.cops_stream.specs.declared.audit.Answer.{Answer}
 
-told_in_2 : (t : ATrace) (answer : Answer) (told : List ℕ) → IsTold t answer told → IsTold (in_format_2 t) answer told
-told_in_2 t answer told h = record { verdict = h.verdict; is_report = h.is_report; answer_is = h.answer_is }
+reported_in_2 : (t : ATrace) (answer : Answer) (reported : List ℕ) → IsReported t answer reported → IsReported (in_format_2 t) answer reported
+reported_in_2 t answer reported h = record { verdict = h.verdict; is_report = h.is_report; answer_is = h.answer_is }
 
 pub audited_alike : (bytes : List ℕ) (t : ATrace) → IsConverted bytes t → SayOne bytes → AreAuditedAlike bytes (text t)
-audited_alike bytes t is one answer told says = elim says [
+audited_alike bytes t is one answer reported says = elim says [
   | inl of_trace ↦
       let both = one (Ok of_trace.0) (Ok is.0) of_trace.1 is.1 in
       let same : of_trace.0 ≡ is.0 = cc in
-      let told_of = told_in_2 is.0 answer told (subst (λ (u : ATrace). IsTold u answer told) same of_trace.2) in
-      subst (λ (u : ATrace). AuditSays (text u) answer told) (sym is.2) (inl (in_format_2 is.0, (trace_in_2 is.0 is.1.0, refl), told_of))
+      let reported_of = reported_in_2 is.0 answer reported (subst (λ (u : ATrace). IsReported u answer reported) same of_trace.2) in
+      subst (λ (u : ATrace). AuditSays (text u) answer reported) (sym is.2) (inl (in_format_2 is.0, (trace_in_2 is.0 is.1.0, refl), reported_of))
   | inr of_fault ↦ let not = one (Err of_fault.0) (Ok is.0) of_fault.1 is.1 in absurd cc
 ]
 

@@ -13,9 +13,9 @@ use Rattle.cops_wire.specs.declared.message.Message.{Message}
 use Rattle.cops_wire.specs.declared.decoding.Decoded.{Decoded}
 use Rattle.cops_wire.specs.Grammar.{grammar, Parts}
 use Rattle.cops_wire.specs.Legal.{IsMessage}
-use Rattle.cops_wire.specs.Message.{parts, spelled}
+use Rattle.cops_wire.specs.Message.{parts, encoded}
 use Rattle.cops_wire.specs.Answer.{Answers, IsAnswer}
-use Rattle.cops_trace.proofs.Items.{spelled_in}
+use Rattle.cops_trace.proofs.Items.{encoded_in}
 use Rattle.cops_trace.proofs.Lists.{all_both, all_back}
 use Rattle.cops_types.proofs.Devices.{appends_more}
 use Rattle.cops_stream.proofs.Shown.{appends_none}
@@ -29,17 +29,17 @@ use Rattle.cops_stream.specs.Show.{line_of, lines_of, frames_of, StandBefore, Ar
 
 -- ---- one more frame
 
-one_frame : (m : Message) → frames_of (m ∷ []) ≡ spelled m
-one_frame m = append-nil (spelled m)
+one_frame : (m : Message) → frames_of (m ∷ []) ≡ encoded m
+one_frame m = append-nil (encoded m)
 
-more_frames : (ms : List Message) (m : Message) → frames_of (ms ++ m ∷ []) ≡ frames_of ms ++ spelled m
-more_frames ms m = flat_map-append spelled ms (m ∷ []) ∙ ap (λ (x : List ℕ). frames_of ms ++ x) (one_frame m)
+more_frames : (ms : List Message) (m : Message) → frames_of (ms ++ m ∷ []) ≡ frames_of ms ++ encoded m
+more_frames ms m = flat_map-append encoded ms (m ∷ []) ∙ ap (λ (x : List ℕ). frames_of ms ++ x) (one_frame m)
 
-one_length : (m : Message) → length (frames_of (m ∷ [])) ≡ length (spelled m)
+one_length : (m : Message) → length (frames_of (m ∷ [])) ≡ length (encoded m)
 one_length m = ap length (one_frame m)
 
-more_length : (ms : List Message) (m : Message) → length (frames_of (ms ++ m ∷ [])) ≡ length (frames_of ms) + length (spelled m)
-more_length ms m = ap length (more_frames ms m) ∙ length-append (frames_of ms) (spelled m)
+more_length : (ms : List Message) (m : Message) → length (frames_of (ms ++ m ∷ [])) ≡ length (frames_of ms) + length (encoded m)
+more_length ms m = ap length (more_frames ms m) ∙ length-append (frames_of ms) (encoded m)
 
 more_lines : (ms : List Message) (m : Message) → lines_of (ms ++ m ∷ []) ≡ lines_of ms ++ line_of m
 more_lines ms m = flat_map-append line_of ms (m ∷ []) ∙ ap (λ (x : List ℕ). lines_of ms ++ x) (append-nil (line_of m))
@@ -59,7 +59,7 @@ rest_is format bytes end at ms h =
     ap (λ (n : ℕ). drop n bytes) h.place ∙ ap (λ (x : List ℕ). drop (length (frames_of ms)) x) h.stand.front ∙ drop-append_seam (frames_of ms) h.stand.rest
 
 -- the message with which the rest begins follows them
-one_more : (format : Format) (bytes : List ℕ) (end at used : ℕ) (ms : List Message) (m : Message) → StandTo format bytes end at ms → StandBefore format (drop at bytes) (end - at) (m ∷ []) → used ≡ length (spelled m)
+one_more : (format : Format) (bytes : List ℕ) (end at used : ℕ) (ms : List Message) (m : Message) → StandTo format bytes end at ms → StandBefore format (drop at bytes) (end - at) (m ∷ []) → used ≡ length (encoded m)
     → StandTo format bytes end (at + used) (ms ++ m ∷ [])
 one_more format bytes end at used ms m h n len =
     record {
@@ -67,7 +67,7 @@ one_more format bytes end at used ms m h n len =
         legal = all_both (λ n. IsMessage (grammar format) (parts n)) ms (m ∷ []) h.stand.legal n.legal;
         rest = n.rest;
         front = h.stand.front ∙ ap (λ (x : List ℕ). frames_of ms ++ x) (sym (rest_is format bytes end at ms h) ∙ n.front ∙ ap (λ (x : List ℕ). x ++ n.rest) (one_frame m))
-            ∙ sym (append_assoc (frames_of ms) (spelled m) n.rest) ∙ ap (λ (x : List ℕ). x ++ n.rest) (sym (more_frames ms m));
+            ∙ sym (append_assoc (frames_of ms) (encoded m) n.rest) ∙ ap (λ (x : List ℕ). x ++ n.rest) (sym (more_frames ms m));
         ends = omega (arith, h.place, h.stand.ends, n.ends, one_length m, more_length ms m);
       };
       place = omega (arith, h.place, len, more_length ms m);
@@ -83,7 +83,7 @@ no_more format bytes end at ms h none = record {
         legal = all_back (λ n. IsMessage (grammar format) (parts n)) ms (m ∷ []) s.legal;
         rest = s.rest;
         front = rest_is format bytes end at ms h ∙ append_cancel_left (frames_of ms) h.stand.rest (frames_of (m ∷ []) ++ s.rest)
-            (sym h.stand.front ∙ s.front ∙ ap (λ (x : List ℕ). x ++ s.rest) (flat_map-append spelled ms (m ∷ [])) ∙ append_assoc (frames_of ms) (frames_of (m ∷ [])) s.rest);
+            (sym h.stand.front ∙ s.front ∙ ap (λ (x : List ℕ). x ++ s.rest) (flat_map-append encoded ms (m ∷ [])) ∙ append_assoc (frames_of ms) (frames_of (m ∷ [])) s.rest);
         ends = omega (arith, h.place, s.ends, one_length m, more_length ms m);
       });
 }
@@ -129,9 +129,9 @@ all_written format bytes end at old mid new text more h none w =
 -- ---- the first frame
 
 -- a message whose frame the bytes begin with is what decoding them returns
-message_stands : (format : Format) (bytes : List ℕ) (end : ℕ) (m : Message) → StandBefore format bytes end (m ∷ []) → IsAnswer (grammar format) bytes (Ok (parts m, length (spelled m)))
+message_stands : (format : Format) (bytes : List ℕ) (end : ℕ) (m : Message) → StandBefore format bytes end (m ∷ []) → IsAnswer (grammar format) bytes (Ok (parts m, length (encoded m)))
 message_stands format bytes end m s =
-    let same = sym (spelled_in format m s.legal.0) in
+    let same = sym (encoded_in format m s.legal.0) in
     record { message = s.legal.0; rest = s.rest; front = s.front ∙ ap (λ (x : List ℕ). x ++ s.rest) (one_frame m ∙ same); length_is = ap length same }
 
 -- a fault that decoding returns is no message
@@ -145,7 +145,7 @@ no_fault wire.TrailingBytes x ne h = cc
 
 pub none_stands : (format : Format) (bytes : List ℕ) (end : ℕ) (f : WireFault) → (f ≡ wire.Memory → ⊥) → ((a : Result (Parts × ℕ) WireFault) → IsAnswer (grammar format) bytes a → Answers (Err f) (λ b. b ≡ a))
     → (m : Message) → StandBefore format bytes end (m ∷ []) → ⊥
-none_stands format bytes end f ne only m s = no_fault f (parts m, length (spelled m)) ne (only (Ok (parts m, length (spelled m))) (message_stands format bytes end m s))
+none_stands format bytes end f ne only m s = no_fault f (parts m, length (encoded m)) ne (only (Ok (parts m, length (encoded m))) (message_stands format bytes end m s))
 
 same_used : (x y : Parts × ℕ) → ◌≡◌ {A = Result (Parts × ℕ) WireFault} (Ok x) (Ok y) → x.1 ≡ y.1
 same_used x y e =
@@ -156,7 +156,7 @@ same_used x y e =
 pub too_long : (format : Format) (bytes : List ℕ) (end : ℕ) (d : Decoded) → end < d.used → ((a : Result (Parts × ℕ) WireFault) → IsAnswer (grammar format) bytes a → Answers (Ok d) (λ b. b ≡ a))
     → (m : Message) → StandBefore format bytes end (m ∷ []) → ⊥
 too_long format bytes end d long only m s =
-    let used : d.used ≡ length (spelled m) = same_used (parts d.message, d.used) (parts m, length (spelled m)) (only (Ok (parts m, length (spelled m))) (message_stands format bytes end m s)) in
+    let used : d.used ≡ length (encoded m) = same_used (parts d.message, d.used) (parts m, length (encoded m)) (only (Ok (parts m, length (encoded m))) (message_stands format bytes end m s)) in
     absurd (omega (arith, s.ends, one_length m))
 
 -- where it ends before the place, they begin with its message
@@ -167,10 +167,10 @@ it_stands format bytes end d old new a within lines = (
   record {
     legal = (a.message, tt);
     rest = a.rest;
-    front = a.front ∙ ap (λ (x : List ℕ). x ++ a.rest) (spelled_in format d.message a.message ∙ sym (one_frame d.message));
-    ends = omega (arith, a.length_is, ap length (spelled_in format d.message a.message), one_length d.message);
+    front = a.front ∙ ap (λ (x : List ℕ). x ++ a.rest) (encoded_in format d.message a.message ∙ sym (one_frame d.message));
+    ends = omega (arith, a.length_is, ap length (encoded_in format d.message a.message), one_length d.message);
   },
-  a.length_is ∙ ap length (spelled_in format d.message a.message),
+  a.length_is ∙ ap length (encoded_in format d.message a.message),
   lines,
 )
 
@@ -186,11 +186,11 @@ it_ends format bytes end d old new (Ok (Some _)) _ line a _ = subst (λ used. Ap
 -- ---- the format that the head names
 
 -- a head with which the bytes begin is what decoding them returns
-head_answers : (bytes : List ℕ) (format : Format) (h : HasHead bytes format) → IsAnswer (grammar One) bytes (Ok (parts (TraceHead (number_of format) h.clients), length (spelled (TraceHead (number_of format) h.clients))))
+head_answers : (bytes : List ℕ) (format : Format) (h : HasHead bytes format) → IsAnswer (grammar One) bytes (Ok (parts (TraceHead (number_of format) h.clients), length (encoded (TraceHead (number_of format) h.clients))))
 head_answers bytes format h =
     let m = TraceHead (number_of format) h.clients in
     let legal : IsMessage (grammar One) (parts m) = (number_fits format, (h.few, tt)) in
-    let same = sym (spelled_in One m legal) in
+    let same = sym (encoded_in One m legal) in
     record { message = legal; rest = h.rest; front = h.front ∙ ap (λ (x : List ℕ). x ++ h.rest) same; length_is = ap length same }
   where
     number_fits : (f : Format) → number_of f < 65536
@@ -201,15 +201,15 @@ no_head : (bytes : List ℕ) (r : Result Decoded WireFault) → ((a : Result (Pa
     → ((m : Message) (d : Decoded) → r ≡ Ok d → m ≡ d.message → named m ≡ None) → (r ≡ Err wire.Memory → ⊥) → (other : Format) → HasHead bytes other → ⊥
 no_head bytes (Ok d) only none memory other h =
     let m = TraceHead (number_of other) h.clients in
-    let same : Ok (parts d.message, d.used) ≡ Ok (parts m, length (spelled m)) = only _ (head_answers bytes other h) in
-    let pair : (parts d.message, d.used) ≡ (parts m, length (spelled m)) = cc in
+    let same : Ok (parts d.message, d.used) ≡ Ok (parts m, length (encoded m)) = only _ (head_answers bytes other h) in
+    let pair : (parts d.message, d.used) ≡ (parts m, length (encoded m)) = cc in
     let message : d.message ≡ m = parts-same d.message m (ap (λ (p : Parts × ℕ). p.0) pair) in
     let names : named m ≡ None = none m d refl (sym message) in
     let number = number_again other in
     absurd cc
 no_head bytes (Err f) only none memory other h =
     let m = TraceHead (number_of other) h.clients in
-    no_fault f (parts m, length (spelled m)) (λ e. memory (ap (λ (x : WireFault). Err x) e)) (only _ (head_answers bytes other h))
+    no_fault f (parts m, length (encoded m)) (λ e. memory (ap (λ (x : WireFault). Err x) e)) (only _ (head_answers bytes other h))
 
 -- a message that names a format is the head
 head_is : (bytes : List ℕ) (m : Message) (used : ℕ) (format : Format) → IsAnswer (grammar One) bytes (Ok (parts m, used)) → named m ≡ Some format → HasHead bytes format
@@ -220,7 +220,7 @@ head_is bytes (TraceHead number clients) used format a names =
       clients = clients;
       few = a.message.1.0;
       rest = a.rest;
-      front = a.front ∙ ap (λ (x : List ℕ). x ++ a.rest) (spelled_in One m a.message ∙ ap (λ (n : ℕ). spelled (TraceHead n clients)) is);
+      front = a.front ∙ ap (λ (x : List ℕ). x ++ a.rest) (encoded_in One m a.message ∙ ap (λ (n : ℕ). encoded (TraceHead n clients)) is);
     }
 head_is bytes m used format a names = absurd cc
 

@@ -2,10 +2,10 @@ pub mod Feeding
 pub mod Frames
 pub mod OneText
 pub mod Shown
-pub mod Told
-pub mod ToldSoFar
+pub mod ExplainedText
+pub mod ReportedSoFar
 pub mod Unique
 pub mod UniqueSoFar
-pub mod ToldExplained
+pub mod ReportedExplained
 pub mod UniqueExplained
 pub mod AuditedAlike

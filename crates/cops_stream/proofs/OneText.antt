@@ -8,7 +8,7 @@ use Rattle.cops_trace.specs.declared.found.Item.{Item}
 use Rattle.cops_trace.specs.declared.found.Item.TheVariants.{End}
 use Rattle.cops_trace.specs.Parsing.{is_end}
 use Rattle.cops_trace.proofs.Items.{one_item, stands_used, stood}
-use Rattle.cops_trace.proofs.Readings.{IsLast, end_legal, fronts_one, same_message}
+use Rattle.cops_trace.proofs.Readings.{IsLast, end_legal, prefixes_one, same_message}
 
 -- no head and no record is decoded from no bytes
 nothing_last : (b : Option ATrace) → IsLast b []
@@ -25,10 +25,10 @@ end_last t h i used going stands =
 
 pub one_text : (t u : ATrace) → IsTrace t → IsTrace u → text t ≡ text u → t ≡ u
 one_text t u h k e =
-    let both = fronts_one (text t) (Some t) (Some u) (end_text t) (end_text u) (record { is_trace = h; parts = refl }) (record { is_trace = k; parts = e }) (end_last t h) (end_last u k) in
+    let both = prefixes_one (text t) (Some t) (Some u) (end_text t) (end_text u) (record { is_trace = h; parts = refl }) (record { is_trace = k; parts = e }) (end_last t h) (end_last u k) in
     let same : Some t ≡ Some u = both.0 in
     cc
 
-pub one_front : (b c : Option ATrace) → IfSome b IsTrace → IfSome c IsTrace → front b ≡ front c → b ≡ c
-one_front b c h k e =
-    (fronts_one (front b) b c [] [] (record { is_trace = h; parts = sym (append-nil (front b)) }) (record { is_trace = k; parts = e ∙ sym (append-nil (front c)) }) (nothing_last b) (nothing_last c)).0
+pub one_prefix : (b c : Option ATrace) → IfSome b IsTrace → IfSome c IsTrace → front b ≡ front c → b ≡ c
+one_prefix b c h k e =
+    (prefixes_one (front b) b c [] [] (record { is_trace = h; parts = sym (append-nil (front b)) }) (record { is_trace = k; parts = e ∙ sym (append-nil (front c)) }) (nothing_last b) (nothing_last c)).0

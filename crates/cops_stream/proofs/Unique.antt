@@ -17,7 +17,7 @@ use Rattle.cops_trace.specs.Text.{ATrace, sessions_of}
 use Rattle.cops_trace.specs.Lines.{fault_line}
 use Rattle.cops_trace.proofs.Readings.{one_answer}
 use Rattle.cops_wire.specs.Answer.{IsBytes}
-use Rattle.cops_stream.specs.Audit.{AuditSays, IsTold, answer_of}
+use Rattle.cops_stream.specs.Audit.{AuditSays, IsReported, answer_of}
 use Rattle.cops_stream.specs.declared.audit.Answer.{Answer}
 
 -- the lines of stale gets are one text
@@ -58,18 +58,18 @@ same_report h (Refused a) (Refused b) x y s p q = (refl, same_refusal h a b x y 
 same_report h (Accepted a) (Refused b) x y s p q = absurd s
 same_report h (Refused a) (Accepted b) x y s p q = absurd s
 
-pub same_told : (t : ATrace) (a b : Answer) (x y : List ℕ) → IsTold t a x → IsTold t b y → (a ≡ b) × (x ≡ y)
-same_told t a b x y p q =
+pub same_reported : (t : ATrace) (a b : Answer) (x y : List ℕ) → IsReported t a x → IsReported t b y → (a ≡ b) × (x ≡ y)
+same_reported t a b x y p q =
     let h = sessions_of t in
     let verdicts = same_verdict h p.verdict q.verdict p.is_report.is_verdict q.is_report.is_verdict in
     let same = same_report h p.verdict q.verdict x y verdicts p.is_report.is_report q.is_report.is_report in
     (p.answer_is ∙ same.0 ∙ sym q.answer_is, same.1)
 
 pub one_audit : (bytes : List ℕ) (a b : Answer) (x y : List ℕ) → IsBytes bytes → AuditSays bytes a x → AuditSays bytes b y → (a ≡ b) × (x ≡ y)
-one_audit bytes a b x y fits (inl (t, says, told)) (inl (u, others, other)) =
+one_audit bytes a b x y fits (inl (t, says, reported)) (inl (u, others, other)) =
     let same : t ≡ u = let one = one_answer bytes (Ok t) (Ok u) fits says others in cc in
-    same_told u a b x y (subst (λ (v : ATrace). IsTold v a x) same told) other
-one_audit bytes a b x y fits (inl (t, says, told)) (inr (e, others, is_b, is_y)) = absurd (let one = one_answer bytes (Ok t) (Err e) fits says others in cc)
+    same_reported u a b x y (subst (λ (v : ATrace). IsReported v a x) same reported) other
+one_audit bytes a b x y fits (inl (t, says, reported)) (inr (e, others, is_b, is_y)) = absurd (let one = one_answer bytes (Ok t) (Err e) fits says others in cc)
 one_audit bytes a b x y fits (inr (e, says, is_a, is_x)) (inl (t, others, other)) = absurd (let one = one_answer bytes (Err e) (Ok t) fits says others in cc)
 one_audit bytes a b x y fits (inr (e, says, is_a, is_x)) (inr (f, others, is_b, is_y)) =
     let same : e ≡ f = let one = one_answer bytes (Err e) (Err f) fits says others in cc in

@@ -10,7 +10,7 @@ use Rattle.cops_trace.specs.Lines.{fault_line}
 use Rattle.cops_trace.specs.Text.{ATrace, sessions_of}
 use Rattle.cops_trace.proofs.Readings.{one_answer}
 use Rattle.cops_wire.specs.Answer.{IsBytes}
-use Rattle.cops_stream.specs.Audit.{AuditSays, IsTold, answer_of}
+use Rattle.cops_stream.specs.Audit.{AuditSays, IsReported, answer_of}
 use Rattle.cops_stream.specs.Explain.{ExplainSays, IsExplanation}
 use Rattle.cops_stream.specs.declared.audit.Answer.{Answer}
 
@@ -27,24 +27,24 @@ same_explained t asked a b x y p q =
       explained.one_explanation h p.verdict q.verdict asked x y p.is_verdict q.is_verdict p.is_explained q.is_explained,
     )
 
-same_audited : (t : ATrace) (asked : Selection) (a b : Answer) (x y : List ℕ) → IsExplanation t asked a x → IsTold t b y → a ≡ b
+same_audited : (t : ATrace) (asked : Selection) (a b : Answer) (x y : List ℕ) → IsExplanation t asked a x → IsReported t b y → a ≡ b
 same_audited t asked a b x y p q =
     p.answer_is ∙ same_answer p.verdict q.verdict (same_verdict (sessions_of t) p.verdict q.verdict p.is_verdict q.is_report.is_verdict) ∙ sym q.answer_is
 
 pub one_explanation : (bytes : List ℕ) → IsBytes bytes → (asked : Selection) (a b : Answer) (x y : List ℕ) → ExplainSays asked bytes a x → ExplainSays asked bytes b y → (a ≡ b) × (x ≡ y)
-one_explanation bytes fits asked a b x y (inl (t, says, told)) (inl (u, others, other)) =
+one_explanation bytes fits asked a b x y (inl (t, says, reported)) (inl (u, others, other)) =
     let same : t ≡ u = let one = one_answer bytes (Ok t) (Ok u) fits says others in cc in
-    same_explained u asked a b x y (subst (λ (v : ATrace). IsExplanation v asked a x) same told) other
-one_explanation bytes fits asked a b x y (inl (t, says, told)) (inr (e, others, is_b, is_y)) = absurd (let one = one_answer bytes (Ok t) (Err e) fits says others in cc)
+    same_explained u asked a b x y (subst (λ (v : ATrace). IsExplanation v asked a x) same reported) other
+one_explanation bytes fits asked a b x y (inl (t, says, reported)) (inr (e, others, is_b, is_y)) = absurd (let one = one_answer bytes (Ok t) (Err e) fits says others in cc)
 one_explanation bytes fits asked a b x y (inr (e, says, is_a, is_x)) (inl (t, others, other)) = absurd (let one = one_answer bytes (Err e) (Ok t) fits says others in cc)
 one_explanation bytes fits asked a b x y (inr (e, says, is_a, is_x)) (inr (f, others, is_b, is_y)) =
     let same : e ≡ f = let one = one_answer bytes (Err e) (Err f) fits says others in cc in
     (is_a ∙ sym is_b, is_x ∙ ap fault_line same ∙ sym is_y)
 
 pub explained_as_audited : (bytes : List ℕ) → IsBytes bytes → (asked : Selection) (a b : Answer) (x y : List ℕ) → ExplainSays asked bytes a x → AuditSays bytes b y → a ≡ b
-explained_as_audited bytes fits asked a b x y (inl (t, says, told)) (inl (u, others, other)) =
+explained_as_audited bytes fits asked a b x y (inl (t, says, reported)) (inl (u, others, other)) =
     let same : t ≡ u = let one = one_answer bytes (Ok t) (Ok u) fits says others in cc in
-    same_audited u asked a b x y (subst (λ (v : ATrace). IsExplanation v asked a x) same told) other
-explained_as_audited bytes fits asked a b x y (inl (t, says, told)) (inr (e, others, is_b, is_y)) = absurd (let one = one_answer bytes (Ok t) (Err e) fits says others in cc)
+    same_audited u asked a b x y (subst (λ (v : ATrace). IsExplanation v asked a x) same reported) other
+explained_as_audited bytes fits asked a b x y (inl (t, says, reported)) (inr (e, others, is_b, is_y)) = absurd (let one = one_answer bytes (Ok t) (Err e) fits says others in cc)
 explained_as_audited bytes fits asked a b x y (inr (e, says, is_a, is_x)) (inl (t, others, other)) = absurd (let one = one_answer bytes (Err e) (Ok t) fits says others in cc)
 explained_as_audited bytes fits asked a b x y (inr (e, says, is_a, is_x)) (inr (f, others, is_b, is_y)) = is_a ∙ sym is_b

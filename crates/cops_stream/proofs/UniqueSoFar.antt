@@ -14,12 +14,12 @@ use Rattle.cops_trace.specs.Answer.{HasFault, IsCutAfter, Says, front}
 use Rattle.cops_trace.specs.Lines.{fault_line}
 use Rattle.cops_trace.proofs.Readings.{one_answer}
 use Rattle.cops_wire.specs.Answer.{IsBytes}
-use Rattle.cops_stream.specs.Audit.{AuditSays, IsTold}
+use Rattle.cops_stream.specs.Audit.{AuditSays, IsReported}
 use Rattle.cops_stream.specs.SoFar.{SaysSoFar, answer_so_far, cut_text}
 use Rattle.cops_stream.specs.declared.audit.Answer.{Answer}
 use Rattle.cops_types.specs.declared.format.Format.TheVariants.{One}
-use Rattle.cops_stream.proofs.OneText.{one_front}
-use Rattle.cops_stream.proofs.Unique.{same_told}
+use Rattle.cops_stream.proofs.OneText.{one_prefix}
+use Rattle.cops_stream.proofs.Unique.{same_reported}
 
 -- ---- the verdict so far
 
@@ -52,9 +52,9 @@ one_cut : (bytes : List ℕ) (t u : ATrace) (n m : ℕ) → IsBytes bytes → Is
 one_cut bytes t u n m fits h k =
     let place : length (front k.begun) ≡ length (front h.begun) = sym k.place ∙ sym (one_place bytes t u n m fits h k) ∙ h.place in
     let size = length (front h.begun) in
-    let fronts : front h.begun ≡ front k.begun =
+    let prefixes : front h.begun ≡ front k.begun =
     sym (take_at (front h.begun) h.rest size refl) ∙ ap (take size) (sym h.begins.parts ∙ k.begins.parts) ∙ take_at (front k.begun) k.rest size place in
-    let same = one_front h.begun k.begun h.begins.is_trace k.begins.is_trace fronts in
+    let same = one_prefix h.begun k.begun h.begins.is_trace k.begins.is_trace prefixes in
     h.trace_is ∙ ap (λ (b : Option ATrace). unwrap_or b (record { format = One; clients = 0; records = [] })) same ∙ sym k.trace_is
 
 -- ---- the answer and the text
@@ -65,9 +65,9 @@ one_audit_so_far bytes a b x y fits (inl (n, s, cut, is_a, is_x)) (inl (m, r, ot
     let place = one_place bytes cut.trace other.trace n m fits cut.is_cut other.is_cut in
     let so_far = one_so_far (sessions_of other.trace) s r (subst (λ (t : ATrace). IsSoFar (sessions_of t) s) trace cut.is_so_far) other.is_so_far in
     (is_a ∙ ap answer_so_far so_far ∙ sym is_b, is_x ∙ ap₂ cut_text place so_far ∙ sym is_y)
-one_audit_so_far bytes a b x y fits (inr (inl (t, says, told))) (inr (inl (u, others, other))) =
+one_audit_so_far bytes a b x y fits (inr (inl (t, says, reported))) (inr (inl (u, others, other))) =
     let same : t ≡ u = let one = one_answer bytes (Ok t) (Ok u) fits says others in cc in
-    same_told u a b x y (subst (λ (v : ATrace). IsTold v a x) same told) other
+    same_reported u a b x y (subst (λ (v : ATrace). IsReported v a x) same reported) other
 one_audit_so_far bytes a b x y fits (inr (inr (e, _, says, is_a, is_x))) (inr (inr (f, _, others, is_b, is_y))) =
     let same : e ≡ f = let one = one_answer bytes (Err e) (Err f) fits says others in cc in
     (is_a ∙ sym is_b, is_x ∙ ap fault_line same ∙ sym is_y)
@@ -85,14 +85,14 @@ one_audit_so_far bytes a b x y fits (inr (inl (t, says, _))) (inr (inr (f, _, ot
 one_audit_so_far bytes a b x y fits (inr (inr (e, _, says, _, _))) (inr (inl (u, others, _))) = absurd (let one = one_answer bytes (Err e) (Ok u) fits says others in cc)
 
 -- bytes that are not cut have the answer of the audit
-pub uncut : (bytes : List ℕ) → ((offset : ℕ) → ¬ HasFault bytes (Cut offset)) → (answer : Answer) (told : List ℕ) → SaysSoFar bytes answer told ↔ AuditSays bytes answer told
-uncut bytes none answer told = (there, back)
+pub uncut : (bytes : List ℕ) → ((offset : ℕ) → ¬ HasFault bytes (Cut offset)) → (answer : Answer) (reported : List ℕ) → SaysSoFar bytes answer reported ↔ AuditSays bytes answer reported
+uncut bytes none answer reported = (there, back)
   where
-    there : SaysSoFar bytes answer told → AuditSays bytes answer told
+    there : SaysSoFar bytes answer reported → AuditSays bytes answer reported
     there (inl (n, _, cut, _, _)) = absurd (none n (cut_fault bytes cut.trace n cut.is_cut))
     there (inr (inl w)) = inl w
-    there (inr (inr (e, _, says, is_answer, is_told))) = inr (e, says, is_answer, is_told)
+    there (inr (inr (e, _, says, is_answer, is_reported))) = inr (e, says, is_answer, is_reported)
 
-    back : AuditSays bytes answer told → SaysSoFar bytes answer told
+    back : AuditSays bytes answer reported → SaysSoFar bytes answer reported
     back (inl w) = inr (inl w)
-    back (inr (e, says, is_answer, is_told)) = inr (inr (e, (λ offset same. none offset (subst (HasFault bytes) same says)), says, is_answer, is_told))
+    back (inr (e, says, is_answer, is_reported)) = inr (inr (e, (λ offset same. none offset (subst (HasFault bytes) same says)), says, is_answer, is_reported))

@@ -9,7 +9,7 @@ use Rattle.cops_stream.specs.Audit.{AuditSays}
 
 -- each answer and text that the audit has for `bytes` it also has for `others`
 abbrev pub AreAuditedAlike : List ℕ → List ℕ → Type 0
-AreAuditedAlike bytes others = (answer : Answer) (told : List ℕ) → AuditSays bytes answer told → AuditSays others answer told
+AreAuditedAlike bytes others = (answer : Answer) (reported : List ℕ) → AuditSays bytes answer reported → AuditSays others answer reported
 
 -- the bytes are the text of a trace of `count` records, and the writer gained the text of the same trace in format 2, whose audit has the same answer
 -- and text

@@ -17,25 +17,25 @@ use Rattle.cops_stream.specs.declared.audit.Answer.TheVariants.{Faulty}
 use Rattle.cops_stream.specs.Audit.{answer_of}
 
 -- for a trace: the explanation of the verdict on its sessions
-pub record IsExplanation (t : ATrace) (asked : Selection) (answer : Answer) (told : List ℕ) : Type 0 where
+pub record IsExplanation (t : ATrace) (asked : Selection) (answer : Answer) (reported : List ℕ) : Type 0 where
   pub verdict : Verdict
   pub is_verdict : IsVerdict (sessions_of t) verdict
-  pub is_explained : IsExplained (sessions_of t) verdict asked told
+  pub is_explained : IsExplained (sessions_of t) verdict asked reported
   pub answer_is : answer ≡ answer_of verdict
 
 -- for bytes: the explanation, where they are a trace's text, otherwise the line of their first fault
 abbrev pub ExplainSays : Selection → List ℕ → Answer → List ℕ → Type 0
-ExplainSays asked bytes answer told =
-    ((t : ATrace) × Says bytes (Ok t) × IsExplanation t asked answer told)
-    ⊎ ((e : TraceFault) × Says bytes (Err e) × (answer ≡ Faulty) × (told ≡ fault_line e))
+ExplainSays asked bytes answer reported =
+    ((t : ATrace) × Says bytes (Ok t) × IsExplanation t asked answer reported)
+    ⊎ ((e : TraceFault) × Says bytes (Err e) × (answer ≡ Faulty) × (reported ≡ fault_line e))
 
 -- the writer gained the whole text
 abbrev pub WritesExplained : Selection → List ℕ → Answer → Option (List ℕ) → Option (List ℕ) → Type 0
-WritesExplained asked bytes answer old new = (told : List ℕ) × ExplainSays asked bytes answer told × Appends old new told
+WritesExplained asked bytes answer old new = (reported : List ℕ) × ExplainSays asked bytes answer reported × Appends old new reported
 
 -- the writer gained a prefix of the text
-abbrev pub WritesFrontExplained : Selection → List ℕ → Option (List ℕ) → Option (List ℕ) → Type 0
-WritesFrontExplained asked bytes old new = (answer : Answer) × (front : List ℕ) × (rest : List ℕ) × ExplainSays asked bytes answer (front ++ rest) × Appends old new front
+abbrev pub WritesPrefixExplained : Selection → List ℕ → Option (List ℕ) → Option (List ℕ) → Type 0
+WritesPrefixExplained asked bytes old new = (answer : Answer) × (front : List ℕ) × (rest : List ℕ) × ExplainSays asked bytes answer (front ++ rest) × Appends old new front
 
 -- the number of the fault that is drawn: the one that is asked for, or the first
 abbrev pub drawn_number : Selection → ℕ

@@ -10,7 +10,7 @@ use Rattle.cops_wire.specs.declared.message.Message.{Message}
 use Rattle.cops_wire.specs.declared.message.Message.TheVariants.{TraceHead}
 use Rattle.cops_wire.specs.Grammar.{grammar}
 use Rattle.cops_wire.specs.Legal.{IsMessage}
-use Rattle.cops_wire.specs.Message.{parts, spelled}
+use Rattle.cops_wire.specs.Message.{parts, encoded}
 use Rattle.cops_wire.specs.Shown.{shown}
 use Rattle.cops_command.specs.Status.{number}
 use Rattle.cops_command.specs.declared.status.Status.{Status}
@@ -31,14 +31,14 @@ lines_of ms = flat_map line_of ms
 
 -- their frames, in order
 abbrev pub frames_of : List Message → List ℕ
-frames_of ms = flat_map spelled ms
+frames_of ms = flat_map encoded ms
 
 -- the bytes begin with a head that names the format
 pub record HasHead (bytes : List ℕ) (format : Format) : Type 0 where
   pub clients : ℕ
   pub few : clients < 2 ^ 16
   pub rest : List ℕ
-  pub front : bytes ≡ spelled (TraceHead (number_of format) clients) ++ rest
+  pub front : bytes ≡ encoded (TraceHead (number_of format) clients) ++ rest
 
 -- the format in which the frames are read: the one that the head names, or format 1 where no head names one
 abbrev pub AreReadIn : List ℕ → Format → Type 0

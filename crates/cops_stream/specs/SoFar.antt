@@ -12,8 +12,8 @@ use Rattle.cops_trace.specs.Answer.{Says, IsCutAfter}
 use Rattle.cops_trace.specs.Lines.{fault_line}
 use Rattle.cops_stream.specs.declared.audit.Answer.{Answer}
 use Rattle.cops_stream.specs.declared.audit.Answer.TheVariants.{Accepted, Refused, Faulty}
-use Rattle.cops_stream.specs.Audit.{IsTold}
-use Rattle.cops_stream.specs.Convergent.{SpellsConvergent}
+use Rattle.cops_stream.specs.Audit.{IsReported}
+use Rattle.cops_stream.specs.Convergent.{EncodesConvergent}
 
 -- the answer for a verdict so far: a history with pending reads may still come to be accepted
 abbrev pub answer_so_far : SoFar → Answer
@@ -36,20 +36,20 @@ pub record IsCutWith (bytes : List ℕ) (offset : ℕ) (so_far : SoFar) : Type 0
 -- For bytes that are cut: where, and the verdict so far. For all others what the audit says: the report, where they are a trace's text, otherwise the
 -- line of their first fault.
 abbrev pub SaysSoFar : List ℕ → Answer → List ℕ → Type 0
-SaysSoFar bytes answer told =
-    ((offset : ℕ) × (so_far : SoFar) × IsCutWith bytes offset so_far × (answer ≡ answer_so_far so_far) × (told ≡ cut_text offset so_far))
-    ⊎ ((t : ATrace) × Says bytes (Ok t) × IsTold t answer told)
-    ⊎ ((e : TraceFault) × ((offset : ℕ) → e ≢ Cut offset) × Says bytes (Err e) × (answer ≡ Faulty) × (told ≡ fault_line e))
+SaysSoFar bytes answer reported =
+    ((offset : ℕ) × (so_far : SoFar) × IsCutWith bytes offset so_far × (answer ≡ answer_so_far so_far) × (reported ≡ cut_text offset so_far))
+    ⊎ ((t : ATrace) × Says bytes (Ok t) × IsReported t answer reported)
+    ⊎ ((e : TraceFault) × ((offset : ℕ) → e ≢ Cut offset) × Says bytes (Err e) × (answer ≡ Faulty) × (reported ≡ fault_line e))
 
 -- the bytes decode to one history, which is causally convergent, or they are cut, and the whole records before the cut have no fault that no further
 -- operation removes
 abbrev pub IsSoundSoFar : List ℕ → Type 0
-IsSoundSoFar bytes = SpellsConvergent bytes ⊎ ((t : ATrace) × (offset : ℕ) × IsCutAfter bytes t offset × (¬ HasLastingFault (sessions_of t)))
+IsSoundSoFar bytes = EncodesConvergent bytes ⊎ ((t : ATrace) × (offset : ℕ) × IsCutAfter bytes t offset × (¬ HasLastingFault (sessions_of t)))
 
 -- the writer gained the whole text
 abbrev pub WritesSoFar : List ℕ → Answer → Option (List ℕ) → Option (List ℕ) → Type 0
-WritesSoFar bytes answer old new = (told : List ℕ) × SaysSoFar bytes answer told × Appends old new told
+WritesSoFar bytes answer old new = (reported : List ℕ) × SaysSoFar bytes answer reported × Appends old new reported
 
 -- the writer gained a prefix of the text
-abbrev pub WritesFrontSoFar : List ℕ → Option (List ℕ) → Option (List ℕ) → Type 0
-WritesFrontSoFar bytes old new = (answer : Answer) × (front : List ℕ) × (rest : List ℕ) × SaysSoFar bytes answer (front ++ rest) × Appends old new front
+abbrev pub WritesPrefixSoFar : List ℕ → Option (List ℕ) → Option (List ℕ) → Type 0
+WritesPrefixSoFar bytes old new = (answer : Answer) × (front : List ℕ) × (rest : List ℕ) × SaysSoFar bytes answer (front ++ rest) × Appends old new front

@@ -2,7 +2,7 @@
 ghost use Rattle.std.specs.Prelude.{◌≡◌, ◌⊎◌, IfErr, IfOk, IsErrOf};
 ghost use Rattle.cops_trace.specs.Text.{ATrace};
 ghost use Rattle.cops_batch.specs.Pieces.{MayHoldPiece};
-ghost use Rattle.cops_stream.specs.Audit.{IsTold};
+ghost use Rattle.cops_stream.specs.Audit.{IsReported};
 ghost use Rattle.cops_stream.specs.Fed.{WasFed};
 
 use crate::audit::{Answer, StreamFault, answer_of};
@@ -14,7 +14,7 @@ use std::sync::Wait;
 
 /// The answer for a whole trace, with its report, by an auditor that took it.
 pub(crate) fn whole(alloc: Global, fed: Fed) -> Result<(Answer, Vec<u8>), Memory>
-    ensures { (t : ATrace) → WasFed fed t → IfOk result (λ told. IsTold t told.0 told.1.items) }
+    ensures { (t : ATrace) → WasFed fed t → IfOk result (λ reported. IsReported t reported.0 reported.1.items) }
 {
     let judged = fed.into_online().close()?;
     let text = report_judged(alloc, &judged)?;
@@ -29,20 +29,20 @@ pub(crate) fn judged_alone<T: Wait, G: Gate>(
     fed: Fed,
     gate: &G,
 ) -> Result<(Answer, Vec<u8>), StreamFault>
-    ensures told { (t : ATrace) → WasFed fed t → IfOk result (λ told. IsTold t told.0 told.1.items) }
+    ensures reported { (t : ATrace) → WasFed fed t → IfOk result (λ reported. IsReported t reported.0 reported.1.items) }
     ensures held { IsErrOf result StreamFault.Held → MayHoldPiece (G.may_hold gate.now) 0 }
     ensures faults { IfErr result (λ e. (e ≡ StreamFault.Memory) ⊎ (e ≡ StreamFault.Held)) }
 {
     if gate.pass(rt, Point::PieceStart(0)).is_err() {
         return Err(StreamFault::Held);
     }
-    let told = whole(alloc, fed);
+    let reported = whole(alloc, fed);
     if gate.pass(rt, Point::PieceDone(0)).is_err() {
-        drop(told);
+        drop(reported);
         return Err(StreamFault::Held);
     }
-    match told {
-        Ok(told) => Ok(told),
+    match reported {
+        Ok(reported) => Ok(reported),
         Err(Memory) => Err(StreamFault::Memory),
     }
 }

@@ -9,8 +9,8 @@ ghost use Rattle.cops_trace.specs.Lines.{fault_line};
 ghost use Rattle.cops_batch.specs.Pieces.{MayHoldPiece};
 ghost use Rattle.cops_audit.specs.Verdicts.{IsVerdict};
 ghost use Rattle.cops_trace.specs.Text.{ATrace, sessions_of};
-ghost use Rattle.cops_stream.specs.Audit.{AuditSays, Writes, WritesFront, IsTold, answer_of};
-ghost use Rattle.cops_stream.specs.Convergent.{SpellsConvergent};
+ghost use Rattle.cops_stream.specs.Audit.{AuditSays, Writes, WritesPrefix, IsReported, answer_of};
+ghost use Rattle.cops_stream.specs.Convergent.{EncodesConvergent};
 ghost use Rattle.cops_stream.specs.Fed.{WasFed};
 
 use crate::alone::judged_alone;
@@ -19,7 +19,7 @@ use cops_audit::Verdict;
 use cops_batch::{BatchFault, judge_with};
 use cops_command::Status;
 use cops_report::report;
-use cops_trace::{Taken, TraceFault, fault_line, read_into};
+use cops_trace::{SinkTaken, TraceFault, fault_line, read_into};
 use cops_types::{Counted, Gate, History, MAX_WORKERS, Memory, write_text};
 use std::alloc::Global;
 use std::io::{Read, Write};
@@ -85,13 +85,13 @@ pub(crate) fn answer_of(verdict: &Verdict) -> Answer
 }
 
 /// The answer for a verdict on a history, with its report.
-fn reported(
+fn report_on(
     alloc: Global,
     history: &History,
     verdict: &Verdict,
 ) -> Result<(Answer, Vec<u8>), Memory>
     requires { IsVerdict history.now.sessions verdict.now }
-    ensures { (t : ATrace) → history.now.sessions ≡ sessions_of t → IfOk result (λ told. IsTold t told.0 told.1.items) }
+    ensures { (t : ATrace) → history.now.sessions ≡ sessions_of t → IfOk result (λ reported. IsReported t reported.0 reported.1.items) }
 {
     let text = report(alloc, history, verdict)?;
     Ok((answer_of(verdict), text))
@@ -105,7 +105,7 @@ fn judged<T: Threads + Wait + Sync, G: Gate>(
     workers: u8,
     gate: &G,
 ) -> Result<(Answer, Vec<u8>), StreamFault>
-    ensures told { (t : ATrace) → WasFed fed t → IfOk result (λ told. IsTold t told.0 told.1.items) }
+    ensures reported { (t : ATrace) → WasFed fed t → IfOk result (λ reported. IsReported t reported.0 reported.1.items) }
     ensures bad { IsErrOf result StreamFault.BadWorkers → (workers ≡ 0) ⊎ (MAX_WORKERS < workers) }
     ensures held { IsErrOf result StreamFault.Held → (i : ℕ) × (i < workers) × MayHoldPiece (G.may_hold gate.now) i }
     ensures no_read { ¬ IsErrOf result StreamFault.ReadFailed }
@@ -118,15 +118,15 @@ fn judged<T: Threads + Wait + Sync, G: Gate>(
         Err(BatchFault::BadWorkers) => return Err(StreamFault::BadWorkers),
         Err(BatchFault::Held) => return Err(StreamFault::Held),
     };
-    match reported(alloc, &history, &verdict) {
-        Ok(told) => Ok(told),
+    match report_on(alloc, &history, &verdict) {
+        Ok(reported) => Ok(reported),
         Err(Memory) => Err(StreamFault::Memory),
     }
 }
 
 /// The answer for bytes that have this fault, with its line.
 pub(crate) fn faulty(alloc: Global, fault: &TraceFault) -> Result<(Answer, Vec<u8>), StreamFault>
-    ensures told { IfOk result (λ told. (told.0 ≡ Answer.Faulty) × (told.1.items ≡ fault_line fault.now)) }
+    ensures reported { IfOk result (λ reported. (reported.0 ≡ Answer.Faulty) × (reported.1.items ≡ fault_line fault.now)) }
     ensures memory { IfErr result (λ e. e ≡ StreamFault.Memory) }
 {
     let mut text = Vec::new(alloc);
@@ -135,20 +135,20 @@ pub(crate) fn faulty(alloc: Global, fault: &TraceFault) -> Result<(Answer, Vec<u
 }
 
 /// The answer for a trace that is whole or cut, with its text.
-fn told_of<T: Threads + Wait + Sync, G: Gate>(
+fn reported_of<T: Threads + Wait + Sync, G: Gate>(
     rt: &T,
     alloc: Global,
-    taken: Taken<Fed>,
+    taken: SinkTaken<Fed>,
     workers: u8,
     gate: &G,
 ) -> Result<(Answer, Vec<u8>), StreamFault>
-    ensures says { (bytes : List ℕ) → TakesFrom WasFed bytes taken → IfOk result (λ told. AuditSays bytes told.0 told.1.items) }
+    ensures says { (bytes : List ℕ) → TakesFrom WasFed bytes taken → IfOk result (λ reported. AuditSays bytes reported.0 reported.1.items) }
     ensures bad { IsErrOf result StreamFault.BadWorkers → (workers ≡ 0) ⊎ (MAX_WORKERS < workers) }
     ensures held { IsErrOf result StreamFault.Held → (i : ℕ) × (i < workers) × MayHoldPiece (G.may_hold gate.now) i }
     ensures no_read { ¬ IsErrOf result StreamFault.ReadFailed }
     ensures no_write { ¬ IsErrOf result StreamFault.WriteFailed }
 {
-    let Taken { sink, cut } = taken;
+    let SinkTaken { sink, cut } = taken;
     match cut {
         Some(offset) => faulty(alloc, &TraceFault::Cut { offset }),
         None if workers == 1 => judged_alone(rt, alloc, sink, gate),
@@ -157,22 +157,22 @@ fn told_of<T: Threads + Wait + Sync, G: Gate>(
 }
 
 /// The answer for what was read, with its text.
-fn told<T: Threads + Wait + Sync, G: Gate>(
+fn reported<T: Threads + Wait + Sync, G: Gate>(
     rt: &T,
     alloc: Global,
-    read: Result<Taken<Fed>, TraceFault>,
+    read: Result<SinkTaken<Fed>, TraceFault>,
     workers: u8,
     gate: &G,
 ) -> Result<(Answer, Vec<u8>), StreamFault>
-    ensures says { (bytes : List ℕ) → AgreesInto WasFed bytes read → IfOk result (λ told. AuditSays bytes told.0 told.1.items) }
+    ensures says { (bytes : List ℕ) → AgreesInto WasFed bytes read → IfOk result (λ reported. AuditSays bytes reported.0 reported.1.items) }
     ensures bad { IsErrOf result StreamFault.BadWorkers → (workers ≡ 0) ⊎ (MAX_WORKERS < workers) }
     ensures held { IsErrOf result StreamFault.Held → (i : ℕ) × (i < workers) × MayHoldPiece (G.may_hold gate.now) i }
     ensures read_failed { IsErrOf result StreamFault.ReadFailed → read ≡ Err TraceFault.ReadFailed }
-    ensures read_told { IsErrOf read TraceFault.ReadFailed → IsErrOf result StreamFault.ReadFailed }
+    ensures read_reported { IsErrOf read TraceFault.ReadFailed → IsErrOf result StreamFault.ReadFailed }
     ensures no_write { ¬ IsErrOf result StreamFault.WriteFailed }
 {
     match read {
-        Ok(taken) => told_of(rt, alloc, taken, workers, gate),
+        Ok(taken) => reported_of(rt, alloc, taken, workers, gate),
         Err(TraceFault::Memory) => Err(StreamFault::Memory),
         Err(TraceFault::ReadFailed) => Err(StreamFault::ReadFailed),
         Err(fault) => faulty(alloc, &fault),
@@ -180,21 +180,21 @@ fn told<T: Threads + Wait + Sync, G: Gate>(
 }
 
 /// The answer for what a reader gives, with its text, by `workers` workers.
-fn read_and_told<T: Threads + Wait + Sync, R: Read, G: Gate>(
+fn read_and_reported<T: Threads + Wait + Sync, R: Read, G: Gate>(
     rt: &T,
     alloc: Global,
     reader: &mut Counted<R>,
     workers: u8,
     gate: &G,
 ) -> Result<(Answer, Vec<u8>), StreamFault>
-    ensures says { IfOk result (λ told. IfSome (R.remaining (inner reader.old)) (λ bytes. AuditSays bytes told.0 told.1.items)) }
+    ensures says { IfOk result (λ reported. IfSome (R.remaining (inner reader.old)) (λ bytes. AuditSays bytes reported.0 reported.1.items)) }
     ensures bad { IsErrOf result StreamFault.BadWorkers → (workers ≡ 0) ⊎ (MAX_WORKERS < workers) }
     ensures held { IsErrOf result StreamFault.Held → (i : ℕ) × (i < workers) × MayHoldPiece (G.may_hold gate.now) i }
     ensures read_count { IsErrOf result StreamFault.ReadFailed → Failed (failures reader.old) (failures reader.new) }
     ensures read_heard { IsErrOf result StreamFault.ReadFailed ⊎ (failures reader.new ≡ failures reader.old) }
     ensures no_write { ¬ IsErrOf result StreamFault.WriteFailed }
 {
-    told(rt, alloc, read_into(alloc, reader), workers, gate)
+    reported(rt, alloc, read_into(alloc, reader), workers, gate)
 }
 
 /// Reads a trace to its end or its first fault, judges it by `workers` workers, 1 to 64, and writes the report or the
@@ -216,11 +216,11 @@ pub fn audit_stream<T: Threads + Wait + Sync, R: Read, W: Write, G: Gate>(
         Writes bytes answer (W.contents (inner writer.old)) (W.contents (inner writer.new)))) }
 
     // Where the answer is accepted, the bytes decode to one history, and it is causally convergent.
-    ensures accepted { IfOk result (λ answer. answer ≡ Answer.Accepted → IfSome (R.remaining (inner reader.old)) SpellsConvergent) }
+    ensures accepted { IfOk result (λ answer. answer ≡ Answer.Accepted → IfSome (R.remaining (inner reader.old)) EncodesConvergent) }
 
     // Where a write failed, a prefix of the text is written; on any other error nothing is.
     ensures write_failed { IsErrOf result StreamFault.WriteFailed → IfSome (R.remaining (inner reader.old)) (λ bytes.
-        WritesFront bytes (W.contents (inner writer.old)) (W.contents (inner writer.new))) }
+        WritesPrefix bytes (W.contents (inner writer.old)) (W.contents (inner writer.new))) }
     ensures nothing { (IsErrOf result StreamFault.ReadFailed ⊎ IsErrOf result StreamFault.Memory ⊎ IsErrOf result StreamFault.BadWorkers ⊎ IsErrOf result StreamFault.Held)
         → Keeps (W.contents (inner writer.old)) (W.contents (inner writer.new)) }
 
@@ -242,7 +242,7 @@ pub fn audit_stream<T: Threads + Wait + Sync, R: Read, W: Write, G: Gate>(
     if workers > MAX_WORKERS {
         return Err(StreamFault::BadWorkers);
     }
-    let (answer, text) = read_and_told(rt, alloc, reader, workers, gate)?;
+    let (answer, text) = read_and_reported(rt, alloc, reader, workers, gate)?;
     match write_text(writer, &text) {
         Ok(()) => Ok(answer),
         Err(_) => Err(StreamFault::WriteFailed),

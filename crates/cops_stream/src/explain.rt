@@ -6,8 +6,8 @@ ghost use Rattle.cops_types.specs.Failures.{Failed};
 ghost use Rattle.cops_audit.specs.Verdicts.{IsVerdict};
 ghost use Rattle.cops_trace.specs.Answer.{Agrees};
 ghost use Rattle.cops_trace.specs.Lines.{fault_line};
-ghost use Rattle.cops_stream.specs.Convergent.{SpellsConvergent};
-ghost use Rattle.cops_stream.specs.Explain.{ExplainSays, IsDrawing, IsDrawn, IsExplanation, PictureSays, WritesExplained, WritesFrontExplained, drawn_number};
+ghost use Rattle.cops_stream.specs.Convergent.{EncodesConvergent};
+ghost use Rattle.cops_stream.specs.Explain.{ExplainSays, IsDrawing, IsDrawn, IsExplanation, PictureSays, WritesExplained, WritesPrefixExplained, drawn_number};
 
 use crate::audit::{Answer, StreamFault, answer_of, faulty};
 use cops_audit::{Verdict, judge};
@@ -26,7 +26,7 @@ pub struct Explained {
 
 /// The text about a trace, and the result with the picture.
 #[derive(Drop)]
-struct Told {
+struct ExplainedText {
     explained: Explained,
     text: Vec<u8>,
 }
@@ -66,17 +66,17 @@ fn explanation(
     trace: &Trace,
     asked: Selection,
     is_drawn: bool,
-) -> Result<Told, Memory>
-    ensures told { IfOk result (λ told. IsExplanation trace.now asked told.explained.answer told.text.items) }
-    ensures drawn { is_drawn ≡ true → IfOk result (λ told. IsDrawing trace.now asked told.explained.picture) }
-    ensures none { is_drawn ≡ false → IfOk result (λ told. told.explained.picture ≡ None) }
+) -> Result<ExplainedText, Memory>
+    ensures reported { IfOk result (λ reported. IsExplanation trace.now asked reported.explained.answer reported.text.items) }
+    ensures drawn { is_drawn ≡ true → IfOk result (λ reported. IsDrawing trace.now asked reported.explained.picture) }
+    ensures none { is_drawn ≡ false → IfOk result (λ reported. reported.explained.picture ≡ None) }
 {
     let history = trace.history();
     let verdict = judge(alloc, history)?;
     let text = explain(alloc, history, &verdict, asked)?;
     let picture = drawn(alloc, history, &verdict, asked, is_drawn)?;
     let answer = answer_of(&verdict);
-    Ok(Told {
+    Ok(ExplainedText {
         explained: Explained { answer, picture },
         text,
     })
@@ -88,29 +88,29 @@ fn answered(
     read: Result<Trace, TraceFault>,
     asked: Selection,
     is_drawn: bool,
-) -> Result<Told, StreamFault>
-    ensures says { (bytes : List ℕ) → Agrees bytes read → IfOk result (λ told. ExplainSays asked bytes told.explained.answer told.text.items) }
-    ensures drawn { is_drawn ≡ true → (bytes : List ℕ) → Agrees bytes read → IfOk result (λ told. PictureSays asked bytes told.explained.picture) }
-    ensures none { is_drawn ≡ false → IfOk result (λ told. told.explained.picture ≡ None) }
+) -> Result<ExplainedText, StreamFault>
+    ensures says { (bytes : List ℕ) → Agrees bytes read → IfOk result (λ reported. ExplainSays asked bytes reported.explained.answer reported.text.items) }
+    ensures drawn { is_drawn ≡ true → (bytes : List ℕ) → Agrees bytes read → IfOk result (λ reported. PictureSays asked bytes reported.explained.picture) }
+    ensures none { is_drawn ≡ false → IfOk result (λ reported. reported.explained.picture ≡ None) }
     ensures faults { IfErr result (λ e. (e ≡ StreamFault.Memory) ⊎ (e ≡ StreamFault.ReadFailed)) }
     ensures read_failed { IsErrOf result StreamFault.ReadFailed → read ≡ Err TraceFault.ReadFailed }
-    ensures read_told { IsErrOf read TraceFault.ReadFailed → IsErrOf result StreamFault.ReadFailed }
+    ensures read_reported { IsErrOf read TraceFault.ReadFailed → IsErrOf result StreamFault.ReadFailed }
 {
     match read {
         Ok(trace) => explanation(alloc, &trace, asked, is_drawn).or(Err(StreamFault::Memory)),
         Err(TraceFault::Memory) => Err(StreamFault::Memory),
         Err(TraceFault::ReadFailed) => Err(StreamFault::ReadFailed),
-        Err(fault) => told_faulty(alloc, &fault),
+        Err(fault) => reported_faulty(alloc, &fault),
     }
 }
 
 /// The line of a fault in the bytes, without a picture.
-fn told_faulty(alloc: Global, fault: &TraceFault) -> Result<Told, StreamFault>
-    ensures told { IfOk result (λ told. (told.explained.answer ≡ Answer.Faulty) × (told.text.items ≡ fault_line fault.now) × (told.explained.picture ≡ None)) }
+fn reported_faulty(alloc: Global, fault: &TraceFault) -> Result<ExplainedText, StreamFault>
+    ensures reported { IfOk result (λ reported. (reported.explained.answer ≡ Answer.Faulty) × (reported.text.items ≡ fault_line fault.now) × (reported.explained.picture ≡ None)) }
     ensures memory { IfErr result (λ e. e ≡ StreamFault.Memory) }
 {
     let (answer, text) = faulty(alloc, fault)?;
-    Ok(Told {
+    Ok(ExplainedText {
         explained: Explained {
             answer,
             picture: None,
@@ -138,7 +138,7 @@ pub fn explain_stream<R: Read, W: Write>(
         WritesExplained asked bytes explained.answer (W.contents (inner writer.old)) (W.contents (inner writer.new)))) }
 
     // Where the answer is accepted, the bytes decode to one history, and it is causally convergent.
-    ensures accepted { IfOk result (λ explained. explained.answer ≡ Answer.Accepted → IfSome (R.remaining (inner reader.old)) SpellsConvergent) }
+    ensures accepted { IfOk result (λ explained. explained.answer ≡ Answer.Accepted → IfSome (R.remaining (inner reader.old)) EncodesConvergent) }
 
     // What is drawn is the picture of that fault, where it is to be drawn.
     ensures drawn { is_drawn ≡ true → IfOk result (λ explained. IfSome (R.remaining (inner reader.old)) (λ bytes. PictureSays asked bytes explained.picture)) }
@@ -150,7 +150,7 @@ pub fn explain_stream<R: Read, W: Write>(
     ensures nothing { (IsErrOf result StreamFault.ReadFailed ⊎ IsErrOf result StreamFault.Memory)
         → Keeps (W.contents (inner writer.old)) (W.contents (inner writer.new)) }
     ensures write_failed { IsErrOf result StreamFault.WriteFailed → IfSome (R.remaining (inner reader.old)) (λ bytes.
-        WritesFrontExplained asked bytes (W.contents (inner writer.old)) (W.contents (inner writer.new))) }
+        WritesPrefixExplained asked bytes (W.contents (inner writer.old)) (W.contents (inner writer.new))) }
 
     // A device's fault is reported exactly where it was met, the reader's and the writer's.
     ensures read_count { IsErrOf result StreamFault.ReadFailed → Failed (failures reader.old) (failures reader.new) }
@@ -158,7 +158,12 @@ pub fn explain_stream<R: Read, W: Write>(
     ensures write_count { IsErrOf result StreamFault.WriteFailed → Failed (failures writer.old) (failures writer.new) }
     ensures write_heard { IsErrOf result StreamFault.WriteFailed ⊎ (failures writer.new ≡ failures writer.old) }
 {
-    let Told { explained, text } = answered(alloc, read_trace(alloc, reader), asked, is_drawn)?;
+    let ExplainedText { explained, text } = answered(
+        alloc,
+        read_trace(alloc, reader),
+        asked,
+        is_drawn,
+    )?;
     match write_text(writer, &text) {
         Ok(()) => Ok(explained),
         Err(_) => Err(StreamFault::WriteFailed),

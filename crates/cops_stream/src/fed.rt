@@ -37,7 +37,7 @@ impl Sink for Fed {
     }
 
     fn take(&mut self, client: u16, op: &OpView<'_>) -> Result<(), Memory> {
-        match self.online.feed_seen(client, op) {
+        match self.online.feed_borrowed(client, op) {
             Ok(()) => Ok(()),
             // The auditor takes as many operations as a trace has, so the only error is out of memory, though this is
             // not proved.
@@ -49,7 +49,7 @@ impl Sink for Fed {
         self.online.looks_ahead()
     }
 
-    fn foresee(&mut self, coming: &[OpView<'_>]) {
-        self.online.foresee(coming);
+    fn prefetch(&mut self, coming: &[OpView<'_>]) {
+        self.online.prefetch(coming);
     }
 }

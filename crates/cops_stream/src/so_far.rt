@@ -8,13 +8,13 @@ ghost use Rattle.cops_trace.specs.Text.{ATrace, sessions_of};
 ghost use Rattle.cops_audit.specs.SoFar.{IsSoFar};
 ghost use Rattle.cops_audit.specs.declared.verdict.SoFar.{SoFar as ASoFar};
 ghost use Rattle.cops_stream.specs.Fed.{WasFed};
-ghost use Rattle.cops_stream.specs.SoFar.{IsSoundSoFar, SaysSoFar, WritesFrontSoFar, WritesSoFar, answer_so_far, cut_text};
+ghost use Rattle.cops_stream.specs.SoFar.{IsSoundSoFar, SaysSoFar, WritesPrefixSoFar, WritesSoFar, answer_so_far, cut_text};
 
 use crate::alone::whole;
 use crate::audit::{Answer, StreamFault, faulty};
 use crate::fed::Fed;
 use cops_audit::SoFar;
-use cops_trace::{Taken, TraceFault, read_into};
+use cops_trace::{SinkTaken, TraceFault, read_into};
 use cops_types::{Counted, Memory, write_text};
 use std::alloc::Global;
 use std::io::{Read, Write};
@@ -43,8 +43,8 @@ fn cut_text(alloc: Global, offset: u64, so_far: SoFar) -> Result<Vec<u8>, Memory
 
 /// The answer for the whole records before a cut, with its text, by an auditor that took them.
 fn cut(alloc: Global, fed: Fed, offset: u64) -> Result<(Answer, Vec<u8>), Memory>
-    ensures { (t : ATrace) → WasFed fed t → IfOk result (λ told. (so_far : ASoFar) × IsSoFar (sessions_of t) so_far
-        × (told.0 ≡ answer_so_far so_far) × (told.1.items ≡ cut_text offset so_far)) }
+    ensures { (t : ATrace) → WasFed fed t → IfOk result (λ reported. (so_far : ASoFar) × IsSoFar (sessions_of t) so_far
+        × (reported.0 ≡ answer_so_far so_far) × (reported.1.items ≡ cut_text offset so_far)) }
 {
     let mut online = fed.into_online();
     let so_far = online.so_far();
@@ -53,10 +53,10 @@ fn cut(alloc: Global, fed: Fed, offset: u64) -> Result<(Answer, Vec<u8>), Memory
 }
 
 /// The answer for a trace that is whole or cut, with its text.
-fn told_of(alloc: Global, taken: Taken<Fed>) -> Result<(Answer, Vec<u8>), Memory>
-    ensures { (bytes : List ℕ) → TakesFrom WasFed bytes taken → IfOk result (λ told. SaysSoFar bytes told.0 told.1.items) }
+fn reported_of(alloc: Global, taken: SinkTaken<Fed>) -> Result<(Answer, Vec<u8>), Memory>
+    ensures { (bytes : List ℕ) → TakesFrom WasFed bytes taken → IfOk result (λ reported. SaysSoFar bytes reported.0 reported.1.items) }
 {
-    let Taken { sink, cut: place } = taken;
+    let SinkTaken { sink, cut: place } = taken;
     match place {
         Some(offset) => cut(alloc, sink, offset),
         None => whole(alloc, sink),
@@ -64,17 +64,17 @@ fn told_of(alloc: Global, taken: Taken<Fed>) -> Result<(Answer, Vec<u8>), Memory
 }
 
 /// The answer for what was read, with its text.
-fn told(
+fn reported(
     alloc: Global,
-    read: Result<Taken<Fed>, TraceFault>,
+    read: Result<SinkTaken<Fed>, TraceFault>,
 ) -> Result<(Answer, Vec<u8>), StreamFault>
-    ensures says { (bytes : List ℕ) → AgreesInto WasFed bytes read → IfOk result (λ told. SaysSoFar bytes told.0 told.1.items) }
+    ensures says { (bytes : List ℕ) → AgreesInto WasFed bytes read → IfOk result (λ reported. SaysSoFar bytes reported.0 reported.1.items) }
     ensures faults { IfErr result (λ e. (e ≡ StreamFault.Memory) ⊎ (e ≡ StreamFault.ReadFailed)) }
     ensures read_failed { IsErrOf result StreamFault.ReadFailed → read ≡ Err TraceFault.ReadFailed }
-    ensures read_told { IsErrOf read TraceFault.ReadFailed → IsErrOf result StreamFault.ReadFailed }
+    ensures read_reported { IsErrOf read TraceFault.ReadFailed → IsErrOf result StreamFault.ReadFailed }
 {
     match read {
-        Ok(taken) => told_of(alloc, taken).or(Err(StreamFault::Memory)),
+        Ok(taken) => reported_of(alloc, taken).or(Err(StreamFault::Memory)),
         Err(TraceFault::Memory) => Err(StreamFault::Memory),
         Err(TraceFault::ReadFailed) => Err(StreamFault::ReadFailed),
         Err(fault) => faulty(alloc, &fault),
@@ -107,7 +107,7 @@ pub fn audit_so_far<R: Read, W: Write>(
     ensures nothing { (IsErrOf result StreamFault.ReadFailed ⊎ IsErrOf result StreamFault.Memory)
         → Keeps (W.contents (inner writer.old)) (W.contents (inner writer.new)) }
     ensures write_failed { IsErrOf result StreamFault.WriteFailed → IfSome (R.remaining (inner reader.old)) (λ bytes.
-        WritesFrontSoFar bytes (W.contents (inner writer.old)) (W.contents (inner writer.new))) }
+        WritesPrefixSoFar bytes (W.contents (inner writer.old)) (W.contents (inner writer.new))) }
 
     // A device's fault is reported exactly where it was met, the reader's and the writer's.
     ensures read_count { IsErrOf result StreamFault.ReadFailed → Failed (failures reader.old) (failures reader.new) }
@@ -115,7 +115,7 @@ pub fn audit_so_far<R: Read, W: Write>(
     ensures write_count { IsErrOf result StreamFault.WriteFailed → Failed (failures writer.old) (failures writer.new) }
     ensures write_heard { IsErrOf result StreamFault.WriteFailed ⊎ (failures writer.new ≡ failures writer.old) }
 {
-    let (answer, text) = told(alloc, read_into::<Fed, R>(alloc, reader))?;
+    let (answer, text) = reported(alloc, read_into::<Fed, R>(alloc, reader))?;
     match write_text(writer, &text) {
         Ok(()) => Ok(answer),
         Err(_) => Err(StreamFault::WriteFailed),

@@ -23,7 +23,7 @@ IsSeenAs (Get key) (missed k) = k ≡ key
 IsSeenAs _ _ = ⊥
 
 -- the session matches a prefix of the script: its nth operation is one that a client may have seen for the nth of the script
-pub record IsFrontOf (script : List ScriptOp) (session : List Operation) : Type 0 where
+pub record IsPrefixOf (script : List ScriptOp) (session : List Operation) : Type 0 where
   pub few : length session ≤ length script
   pub each : (n : ℕ) (d : ScriptOp) (e : Operation) → n < length session → IsSeenAs (slice_index_or script n d) (slice_index_or session n e)
 
@@ -44,8 +44,8 @@ IsStop s w client next refused = (refused ≡ Memory) ⊎ (((refused ≡ ClockEx
 
 -- a client that is done has seen its whole script, and one that stopped has seen a prefix of it
 abbrev pub IsOutcome : Setting → World → ℕ → List ScriptOp → List Operation → ClientOutcome → Type 0
-IsOutcome s w client script session Done = IsFrontOf script session × (length session ≡ length script)
-IsOutcome s w client script session (Stopped refused) = IsFrontOf script session × IsStop s w client (slice_get script (length session)) refused
+IsOutcome s w client script session Done = IsPrefixOf script session × (length session ≡ length script)
+IsOutcome s w client script session (Stopped refused) = IsPrefixOf script session × IsStop s w client (slice_get script (length session)) refused
 
 -- there are a session and an outcome for each client, and each outcome fits its session
 pub record AreOutcomes (s : Setting) (w : World) (clients : List ScriptedClient) (sessions : Sessions) (outcomes : List ClientOutcome) : Type 0 where

@@ -4,7 +4,7 @@ ghost use Rattle.cops_types.specs.declared.refusal.Refusal.TheVariants.{Memory a
 ghost use Rattle.cops_types.specs.OpRefs.{seen as seen_op};
 ghost use Rattle.cops_node.specs.declared.outcome.Outcome.TheVariants.{Refused};
 ghost use Rattle.cops_core.specs.World.{act_of, happens};
-ghost use Rattle.cops_tie.specs.Outcomes.{AreOutcomes, IsFrontOf, IsOutcome, IsSeenAs, IsStop, event_for};
+ghost use Rattle.cops_tie.specs.Outcomes.{AreOutcomes, IsPrefixOf, IsOutcome, IsSeenAs, IsStop, event_for};
 
 use crate::outcome::ClientOutcome;
 use cops_core::{Event, ScriptOp, ScriptedClient, World, every_interleaving_is_accepted};
@@ -44,7 +44,7 @@ fn is_outcome(
     ensures is { IfOk result (λ is. IsTrue is ↔ IsOutcome world.old.setting world.old.world client script.now (slice_index_or history.now.sessions client []) outcome) }
     ensures stays { IfOk result (λ is. IsTrue is → world.new ≡ world.old) }
 {
-    if !is_front_of(script, history, client) {
+    if !is_prefix_of(script, history, client) {
         return Ok(false);
     }
     let operations = history.session_len(client);
@@ -56,8 +56,8 @@ fn is_outcome(
 
 /// Whether the client's session matches a prefix of its script: its nth operation is one that the client may have seen
 /// for the nth of the script.
-fn is_front_of(script: &[ScriptOp], history: &History, client: u16) -> bool
-    ensures { IsTrue result ↔ IsFrontOf script.now (slice_index_or history.now.sessions client []) }
+fn is_prefix_of(script: &[ScriptOp], history: &History, client: u16) -> bool
+    ensures { IsTrue result ↔ IsPrefixOf script.now (slice_index_or history.now.sessions client []) }
 {
     let operations = history.session_len(client);
     if operations > script.len() {

@@ -209,7 +209,7 @@ fn is_from(setting: &Setting, world: &World, ticketed: &Ticketed<'_>) -> Result<
     if place_of_event(setting, &ticketed.entry.event) != ticketed.place {
         return Ok(false);
     }
-    is_told(setting, world, ticketed.dc, &ticketed.entry.event)
+    is_reported(setting, world, ticketed.dc, &ticketed.entry.event)
 }
 
 /// The place of the key's node, or of the node that gave the version.
@@ -228,7 +228,7 @@ fn place_of_event(setting: &Setting, event: &NodeEvent) -> u8
 }
 
 /// Whether the event's arguments are those that the world has.
-fn is_told(setting: &Setting, world: &World, dc: u8, event: &NodeEvent) -> Result<bool, Memory>
+fn is_reported(setting: &Setting, world: &World, dc: u8, event: &NodeEvent) -> Result<bool, Memory>
     ensures { IfOk result (λ is. IsTrue is ↔ IsFrom setting.now world.now.world dc event.now) }
 {
     match event {

@@ -9,7 +9,7 @@ use Rattle.cops_types.specs.Histories.{Operation}
 use Rattle.cops_types.proofs.Devices.{appends_more}
 use Rattle.cops_types.specs.declared.format.Format.{Format}
 use Rattle.cops_types.specs.declared.format.Format.TheVariants.{One}
-use Rattle.cops_wire.specs.Message.{spelled}
+use Rattle.cops_wire.specs.Message.{encoded}
 use Rattle.cops_wire.specs.Records.{record_message}
 use Rattle.cops_wire.specs.declared.message.Message.TheVariants.{TraceEnd}
 use Rattle.cops_trace.specs.Counts.{ACounts, AreCountsOf, HasTurn, counted, nothing}
@@ -20,10 +20,10 @@ use Rattle.cops_trace.specs.Writing.{IsUnwritten, head_frame, more_written, reco
 use Rattle.cops_trace.specs.declared.fault.WriteFault.{WriteFault}
 use Rattle.cops_trace.specs.declared.fault.WriteFault.TheVariants.{Memory, WriteFailed}
 use Rattle.cops_trace.specs.declared.live.LiveTrace.{LiveTrace}
-use Rattle.cops_trace.proofs.Growth.{IsTrace-grown, IsTrace-none, beginning-grown, beginning-none, with_records}
-use Rattle.cops_trace.proofs.Items.{spelled_len}
+use Rattle.cops_trace.proofs.Allocation.{IsTrace-grown, IsTrace-none, beginning-grown, beginning-none, with_records}
+use Rattle.cops_trace.proofs.Items.{encoded_len}
 use Rattle.cops_trace.proofs.Lists.{take_past}
-use Rattle.cops_trace.proofs.Readings.{end_legal, front_len, text_len}
+use Rattle.cops_trace.proofs.Readings.{end_legal, prefix_len, text_len}
 use Rattle.cops_trace.proofs.Underway.{counts_grown, counts_none}
 
 -- ---- the bytes that a writer took
@@ -43,7 +43,7 @@ appends_none (Some o) = sym (append-nil o)
 -- ---- a cut text
 
 end_there : (t : ATrace) → IsTrace t → 0 < length (end_text t)
-end_there t h = omega (arith, (spelled_len t.format (TraceEnd (length t.records)) (end_legal t h)).0)
+end_there t h = omega (arith, (encoded_len t.format (TraceEnd (length t.records)) (end_legal t h)).0)
 
 -- a proper prefix of the next frame was written after these bytes
 pub cut_in : (old mid new : Option (List ℕ)) (t : ATrace) (bytes frame rest : List ℕ) (count : ℕ) → IsTrace t → text t ≡ bytes ++ (frame ++ rest) → Appends old mid bytes
@@ -75,8 +75,8 @@ cut_kept old mid new bytes c written b k =
     (length (beginning b.trace), cut_here old new b.trace b.is_trace (appends_kept old mid new (beginning b.trace) (subst (Appends old mid) b.bytes_are b.appends) k))
 
 -- adding `count` bytes to a cut text does not overflow 64 bits
-told : (old new : Option (List ℕ)) (before count : ℕ) → IsCutShort old new (before + count) → before + count ≡ more_written before count
-told old new before count cut = let long = text_len cut.trace cut.is_trace in omega (arith, cut.fewer, long)
+reported : (old new : Option (List ℕ)) (before count : ℕ) → IsCutShort old new (before + count) → before + count ≡ more_written before count
+reported old new before count cut = let long = text_len cut.trace cut.is_trace in omega (arith, cut.fewer, long)
 
 -- ---- the head
 
@@ -93,7 +93,7 @@ new_begun old new format clients few first =
       is_trace = h;
       counts = counts_none format clients;
       bytes_are = sym (beginning-none format clients);
-      in_all = omega (arith, ap length (beginning-none format clients), front_len (Some t) h);
+      in_all = omega (arith, ap length (beginning-none format clients), prefix_len (Some t) h);
       appends = first;
     }
 
@@ -111,7 +111,7 @@ new_cut old new format clients Memory few k =
 new_cut old new format clients (WriteFailed written) few u =
     let t = with_records format clients [] in
     let cut = cut_in old old new t [] (head_frame format clients) (end_text t) u.0 (IsTrace-none format clients few) (rest_of_none format clients) (appends_none old) u.3 u.1 in
-    subst (IsCutShort old new) (told old new 0 u.0 cut ∙ sym u.2) cut
+    subst (IsCutShort old new) (reported old new 0 u.0 cut ∙ sym u.2) cut
 
 -- ---- a record
 
@@ -120,7 +120,7 @@ may_grow t c client op h counts turn is =
     IsTrace-grown t (record { client = client; op = op }) h (omega (arith, counts.clients, turn.0)) (subst (λ (f : Format). IsOp f op) counts.format is) (omega (arith, counts.next client, turn.1)) (omega (arith, counts.total, turn.2))
 
 frame_is : (t : ATrace) (c : ACounts) (client : ℕ) (op : Operation) → AreCountsOf t c → record_frame c client op ≡ record_text t.records (record { client = client; op = op })
-frame_is t c client op counts = ap (λ (i : ℕ). spelled (record_message client i op)) (counts.next client)
+frame_is t c client op counts = ap (λ (i : ℕ). encoded (record_message client i op)) (counts.next client)
 
 grown_is : (t : ATrace) (c : ACounts) (bytes : List ℕ) (client : ℕ) (op : Operation) → AreCountsOf t c → bytes ≡ beginning t → beginning (grown t (record { client = client; op = op })) ≡ bytes ++ record_frame c client op
 grown_is t c bytes client op counts is =
@@ -146,7 +146,7 @@ add_begun old mid new bytes c written client op b turn is more =
       is_trace = h;
       counts = counts_grown b.trace c r b.counts turn.0;
       bytes_are = sym same;
-      in_all = omega (arith, b.in_all, ap length same, length-append bytes (record_frame c client op), front_len (Some (grown b.trace r)) h);
+      in_all = omega (arith, b.in_all, ap length same, length-append bytes (record_frame c client op), prefix_len (Some (grown b.trace r)) h);
       appends = appends_more old mid new bytes (record_frame c client op) _ b.appends more refl;
     }
 
@@ -159,7 +159,7 @@ add_cut old mid new bytes c written client op (WriteFailed all) b turn is u =
     let same : text t ≡ bytes ++ (frame ++ end_text t) =
     ap (λ (l : List ℕ). l ++ end_text t) (grown_is b.trace c bytes client op b.counts b.bytes_are) ∙ append_assoc bytes frame (end_text t) in
     let cut = cut_in old mid new t bytes frame (end_text t) u.0 (may_grow b.trace c client op b.is_trace b.counts turn is) same b.appends u.3 u.1 in
-    subst (IsCutShort old new) (told old new (length bytes) u.0 cut ∙ ap (λ (n : ℕ). more_written n u.0) (sym b.in_all) ∙ sym u.2) cut
+    subst (IsCutShort old new) (reported old new (length bytes) u.0 cut ∙ ap (λ (n : ℕ). more_written n u.0) (sym b.in_all) ∙ sym u.2) cut
 
 -- ---- the rest
 

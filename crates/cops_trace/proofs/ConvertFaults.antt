@@ -6,7 +6,7 @@ use Rattle.cops_trace.specs.declared.fault.ConvertFault.{ConvertFault}
 use Rattle.cops_trace.specs.declared.fault.ConvertFault.TheVariants as converting
 use Rattle.cops_trace.specs.Text.{ATrace}
 use Rattle.cops_trace.specs.Answer.{Agrees}
-use Rattle.cops_trace.specs.Converting.{ConvertsFront, IsConverted, IsFaultOf, IsLeftAt, IsUnwrittenAt, fault_of_reading}
+use Rattle.cops_trace.specs.Converting.{ConvertsPrefix, IsConverted, IsFaultOf, IsLeftAt, IsUnwrittenAt, fault_of_reading}
 use Rattle.cops_trace.proofs.Feeding.{of_bytes}
 
 read_fault : (bytes : List ℕ) (fault : TraceFault) → Agrees bytes (Err fault) → IsFaultOf bytes (fault_of_reading fault)
@@ -28,4 +28,4 @@ left_at read t converting.Memory old new is left = left
 left_at read t (converting.Faulty fault) old new is left = absurd left
 left_at read t converting.ReadFailed old new is left = absurd left
 left_at read t (converting.WriteFailed count) old new is left =
-    of_bytes (λ (bytes : List ℕ). IsConverted bytes t) (λ (bytes : List ℕ). ConvertsFront bytes count old new) read is (λ bytes h. (t, h, left))
+    of_bytes (λ (bytes : List ℕ). IsConverted bytes t) (λ (bytes : List ℕ). ConvertsPrefix bytes count old new) read is (λ bytes h. (t, h, left))

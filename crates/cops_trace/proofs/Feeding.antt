@@ -5,10 +5,10 @@ use Rattle.std.specs.Io.KnownBytes.{Consumes, IsAtEnd}
 use Rattle.std.proofs.lemmas.List.{length-append, length-drop, append-nil}
 use Rattle.cops_types.specs.declared.format.Format.TheVariants.{One}
 use Rattle.cops_wire.specs.Answer.{IsBytes}
-use Rattle.cops_wire.specs.Message.{parts, spelled}
+use Rattle.cops_wire.specs.Message.{parts, encoded}
 use Rattle.cops_trace.specs.declared.fault.TraceFault.{TraceFault}
 use Rattle.cops_trace.specs.declared.fault.TraceFault.TheVariants.{Memory, ReadFailed, Cut, BytesAfterEnd}
-use Rattle.cops_trace.specs.declared.sink.Taken.{Taken}
+use Rattle.cops_trace.specs.declared.sink.SinkTaken.{SinkTaken}
 use Rattle.cops_trace.specs.declared.found.Item.{Item}
 use Rattle.cops_trace.specs.declared.found.Item.TheVariants.{Head, Op as Entry, End}
 use Rattle.cops_trace.specs.declared.found.Found.{Found}
@@ -17,10 +17,10 @@ use Rattle.cops_trace.specs.Text.{ATrace, IsTrace, beginning, text, end_text}
 use Rattle.cops_trace.specs.Next.{Progress, Stands}
 use Rattle.cops_trace.specs.Answer.{progress_of, progress_at, front, Begins, HasFault, Says, IsCutAfter, BeginsAs, Agrees, TakesFrom}
 use Rattle.cops_trace.specs.Answer as answer
-use Rattle.cops_trace.specs.Parsing.{Stage, progress_with, progress_in, with_item, is_end, after, FailsAt, StepGives, FedTo, Fed, IsSettledAt, IsSettled, HasFailed, Stops}
+use Rattle.cops_trace.specs.Parsing.{ParseState, progress_with, progress_in, with_item, is_end, after, FailsAt, StepGives, FedTo, Fed, IsSettledAt, IsSettled, HasFailed, Stops}
 use Rattle.cops_trace.proofs.Lists.{nothing_before}
-use Rattle.cops_trace.proofs.Items.{item_message, Stood, stood, stands_still, front_with, trace_with, stands_used, waits_len, nothing_waits, is_of_frame, frame_fails}
-use Rattle.cops_trace.proofs.Readings.{front_len, text_len, one_answer, only_answer}
+use Rattle.cops_trace.proofs.Items.{item_message, Stood, stood, stands_still, prefix_with, trace_with, stands_used, waits_len, nothing_waits, is_of_frame, frame_fails}
+use Rattle.cops_trace.proofs.Readings.{prefix_len, text_len, one_answer, only_answer}
 
 -- ---- bytes in a row
 
@@ -31,7 +31,7 @@ IsBytes-append (x ∷ xs) ys h k (suc i) = IsBytes-append xs ys (λ j. h (suc j)
 
 -- ---- a state and its offset
 
-progress_is : (s : Stage) → s.at ≡ length (front s.begun) → progress_in s ≡ progress_at s.begun
+progress_is : (s : ParseState) → s.at ≡ length (front s.begun) → progress_in s ≡ progress_at s.begun
 progress_is s e = go s.begun s.at e
   where
     go : (b : Option ATrace) (at : ℕ) → at ≡ length (front b) → progress_in (record { begun = b; at = at; ended = false; rest = [] }) ≡ progress_at b
@@ -39,21 +39,21 @@ progress_is s e = go s.begun s.at e
     go (Some t) at e = ap (λ (n : ℕ). Some (progress_with n t)) e
 
 -- the state before the end
-record Open (fed : List ℕ) (s : Stage) : Type 0 where
+record Open (fed : List ℕ) (s : ParseState) : Type 0 where
   begins : Begins fed s.begun s.rest
   place : s.at ≡ length (front s.begun)
 
-open_of : (fed : List ℕ) (s : Stage) → Fed fed s → s.ended ≡ false → Open fed s
-open_of fed s h e = let o = subst (FedTo fed s) e h.stage in record { begins = o.0; place = o.1 }
+open_of : (fed : List ℕ) (s : ParseState) → Fed fed s → s.ended ≡ false → Open fed s
+open_of fed s h e = let o = subst (FedTo fed s) e h.state in record { begins = o.0; place = o.1 }
 
-stands_at : (fed : List ℕ) (s : Stage) (found : Found) → Open fed s → Stands (progress_in s) s.rest found → Stands (progress_at s.begun) s.rest found
+stands_at : (fed : List ℕ) (s : ParseState) (found : Found) → Open fed s → Stands (progress_in s) s.rest found → Stands (progress_at s.begun) s.rest found
 stands_at fed s found o st = subst (λ (p : Option Progress). Stands p s.rest found) (progress_is s o.place) st
 
 pub fed_none : Fed [] (record { begun = None; at = 0; ended = false; rest = [] })
-fed_none = record { fits = λ i. omega arith; stage = (record { is_trace = tt; parts = refl }, refl) }
+fed_none = record { fits = λ i. omega arith; state = (record { is_trace = tt; parts = refl }, refl) }
 
-pub fed_more : (fed piece : List ℕ) (s : Stage) → IsBytes piece → Fed fed s → Fed (fed ++ piece) (record s { rest = s.rest ++ piece })
-fed_more fed piece s fits h = record { fits = IsBytes-append fed piece h.fits fits; stage = go s.ended h.stage }
+pub fed_more : (fed piece : List ℕ) (s : ParseState) → IsBytes piece → Fed fed s → Fed (fed ++ piece) (record s { rest = s.rest ++ piece })
+fed_more fed piece s fits h = record { fits = IsBytes-append fed piece h.fits fits; state = go s.ended h.state }
   where
     go : (e : Bool) → FedTo fed s e → FedTo (fed ++ piece) (record s { rest = s.rest ++ piece }) e
     go false o = (record { is_trace = o.0.is_trace; parts = ap (λ (x : List ℕ). x ++ piece) o.0.parts ∙ append_assoc (front s.begun) s.rest piece }, o.1)
@@ -61,11 +61,11 @@ fed_more fed piece s fits h = record { fits = IsBytes-append fed piece h.fits fi
 
 -- ---- taking an item
 
-item_taken : (fed : List ℕ) (s : Stage) (i : Item) (used : ℕ) (e : Bool) → is_end i ≡ e → Open fed s → Stood (progress_at s.begun) s.rest i used
+item_taken : (fed : List ℕ) (s : ParseState) (i : Item) (used : ℕ) (e : Bool) → is_end i ≡ e → Open fed s → Stood (progress_at s.begun) s.rest i used
     → FedTo fed (record { begun = with_item i s.begun; at = s.at + used; ended = e; rest = drop used s.rest }) e
 item_taken fed s i used false k o st =
-    let grows = front_with s.begun i st.allowed k in
-    let m = spelled (item_message (progress_at s.begun) i) in (
+    let grows = prefix_with s.begun i st.allowed k in
+    let m = encoded (item_message (progress_at s.begun) i) in (
       record {
         is_trace = trace_with s.begun i o.begins.is_trace st.allowed st.legal k;
         parts = o.begins.parts ∙ ap (λ (x : List ℕ). front s.begun ++ x) st.parts_are ∙ sym (append_assoc (front s.begun) m (drop used s.rest)) ∙ ap (λ (x : List ℕ). x ++ drop used s.rest) (sym grows);
@@ -87,17 +87,17 @@ item_taken fed s i used true k o st = go s.begun i used k o.begins.is_trace st o
     go b (Head format clients) used k is st parts place = absurd cc
     go b (Entry client op) used k is st parts place = absurd cc
 
-pub fed_item : (fed : List ℕ) (s : Stage) (i : Item) (used : ℕ) → Fed fed s → s.ended ≡ false → Stands (progress_in s) s.rest (Gives i used) → Fed fed (after i used s)
+pub fed_item : (fed : List ℕ) (s : ParseState) (i : Item) (used : ℕ) → Fed fed s → s.ended ≡ false → Stands (progress_in s) s.rest (Gives i used) → Fed fed (after i used s)
 fed_item fed s i used h e st =
     let o = open_of fed s h e in
     record {
       fits = h.fits;
-      stage = item_taken fed s i used (is_end i) refl o (stood (progress_at s.begun) s.rest i used (stands_at fed s (Gives i used) o st));
+      state = item_taken fed s i used (is_end i) refl o (stood (progress_at s.begun) s.rest i used (stands_at fed s (Gives i used) o st));
     }
 
 -- ---- faults
 
-pub fed_fault : (fed : List ℕ) (s : Stage) (e : TraceFault) (more : List ℕ) → Fed fed s → s.ended ≡ false → Stands (progress_in s) s.rest (Fails e) → HasFault (fed ++ more) e
+pub fed_fault : (fed : List ℕ) (s : ParseState) (e : TraceFault) (more : List ℕ) → Fed fed s → s.ended ≡ false → Stands (progress_in s) s.rest (Fails e) → HasFault (fed ++ more) e
 fed_fault fed s e more h going st =
     let o = open_of fed s h going in
     inl (record {
@@ -107,9 +107,9 @@ fed_fault fed s e more h going st =
       stands = stands_still (progress_at s.begun) s.rest more (Fails e) (λ q. cc) (stands_at fed s (Fails e) o st);
     })
 
-fed_after_end : (fed : List ℕ) (s : Stage) (more : List ℕ) → Fed fed s → s.ended ≡ true → s.rest ≢ [] → HasFault (fed ++ more) (BytesAfterEnd s.at)
+fed_after_end : (fed : List ℕ) (s : ParseState) (more : List ℕ) → Fed fed s → s.ended ≡ true → s.rest ≢ [] → HasFault (fed ++ more) (BytesAfterEnd s.at)
 fed_after_end fed s more h ended some =
-    let o = subst (FedTo fed s) ended h.stage in
+    let o = subst (FedTo fed s) ended h.state in
     inr (inr (record {
       trace = o.0;
       rest = s.rest ++ more;
@@ -119,19 +119,19 @@ fed_after_end fed s more h ended some =
       fault_is = ap (λ (n : ℕ). BytesAfterEnd n) o.4;
     }))
 
-pub more_fails : (fed : List ℕ) (s : Stage) → Fed fed s → s.ended ≡ true → s.rest ≢ [] → HasFailed fed (BytesAfterEnd s.at)
+pub more_fails : (fed : List ℕ) (s : ParseState) → Fed fed s → s.ended ≡ true → s.rest ≢ [] → HasFailed fed (BytesAfterEnd s.at)
 more_fails fed s h ended some = record { no_cut = λ offset q. cc; device = λ q. cc; stays = λ more. fed_after_end fed s more h ended some }
 
 -- before the end, the trace so far has the head and the records before a cut
-pub fed_so_far : (fed : List ℕ) (s : Stage) → Fed fed s → s.ended ≡ false → IsSettled s → IsCutAfter fed (unwrap_or s.begun (record { format = One; clients = 0; records = [] })) s.at
+pub fed_so_far : (fed : List ℕ) (s : ParseState) → Fed fed s → s.ended ≡ false → IsSettled s → IsCutAfter fed (unwrap_or s.begun (record { format = One; clients = 0; records = [] })) s.at
 fed_so_far fed s h going settled =
     let o = open_of fed s h going in
     let st : Stands (progress_in s) s.rest Waits = subst (λ (b : Bool). IsSettledAt b s) going settled in
     record { begun = s.begun; rest = s.rest; begins = o.begins; stands = stands_at fed s Waits o st; place = o.place; trace_is = refl }
 
-pub fed_whole : (fed : List ℕ) (s : Stage) (t : ATrace) → Fed fed s → s.ended ≡ true → s.begun ≡ Some t → IsSettled s → Says fed (Ok t)
+pub fed_whole : (fed : List ℕ) (s : ParseState) (t : ATrace) → Fed fed s → s.ended ≡ true → s.begun ≡ Some t → IsSettled s → Says fed (Ok t)
 fed_whole fed s t h ended begun settled =
-    let o = subst (FedTo fed s) ended h.stage in
+    let o = subst (FedTo fed s) ended h.state in
     let none : s.rest ≡ [] = subst (λ (b : Bool). IsSettledAt b s) ended settled in
     let both : Some o.0 ≡ Some t = sym o.1 ∙ begun in
     let same : o.0 ≡ t = cc in
@@ -139,8 +139,8 @@ fed_whole fed s t h ended begun settled =
     (subst IsTrace same o.2, whole ∙ ap text same)
 
 -- without a trace no end came
-pub not_ended : (fed : List ℕ) (s : Stage) → Fed fed s → s.begun ≡ None → s.ended ≡ false
-not_ended fed s h none = go s.ended h.stage
+pub not_ended : (fed : List ℕ) (s : ParseState) → Fed fed s → s.begun ≡ None → s.ended ≡ false
+not_ended fed s h none = go s.ended h.state
   where
     go : (b : Bool) → FedTo fed s b → b ≡ false
     go false o = refl
@@ -148,7 +148,7 @@ not_ended fed s h none = go s.ended h.stage
 
 -- ---- one step, and all steps
 
-pub step_fails : (fed : List ℕ) (s : Stage) (e : TraceFault) → Fed fed s → (e ≡ Memory) ⊎ FailsAt s.ended s e → Stops fed e
+pub step_fails : (fed : List ℕ) (s : ParseState) (e : TraceFault) → Fed fed s → (e ≡ Memory) ⊎ FailsAt s.ended s e → Stops fed e
 step_fails fed s e h (inl m) = inl m
 step_fails fed s e h (inr f) = inr (go s.ended refl f)
   where
@@ -162,34 +162,34 @@ step_fails fed s e h (inr f) = inr (go s.ended refl f)
         }
     go true ended f = subst (HasFailed fed) (sym f.1) (more_fails fed s h ended f.0)
 
-pub step_waits : (fed : List ℕ) (s new : Stage) → Fed fed s → StepGives s (Ok false) new → Fed fed new × IsSettled new
-step_waits fed s new h st = subst (λ (x : Stage). Fed fed x × IsSettled x) (sym st.1) (h, st.0)
+pub step_waits : (fed : List ℕ) (s new : ParseState) → Fed fed s → StepGives s (Ok false) new → Fed fed new × IsSettled new
+step_waits fed s new h st = subst (λ (x : ParseState). Fed fed x × IsSettled x) (sym st.1) (h, st.0)
 
-pub step_takes : (fed : List ℕ) (s new : Stage) → Fed fed s → StepGives s (Ok true) new → Fed fed new
+pub step_takes : (fed : List ℕ) (s new : ParseState) → Fed fed s → StepGives s (Ok true) new → Fed fed new
 step_takes fed s new h st = subst (Fed fed) (sym st.1.3) (fed_item fed s st.1.0 st.1.1 h st.0 st.1.2)
 
 -- an item has at least one byte
-pub step_less : (s new : Stage) → StepGives s (Ok true) new → length new.rest < length s.rest
+pub step_less : (s new : ParseState) → StepGives s (Ok true) new → length new.rest < length s.rest
 step_less s new st =
     let used = stands_used (progress_in s) s.rest st.1.0 st.1.1 st.1.2 in
     let less : length (drop st.1.1 s.rest) < length s.rest = omega (arith, length-drop st.1.1 s.rest, used.0, used.1) in
-    subst (λ (x : Stage). length x.rest < length s.rest) (sym st.1.3) less
+    subst (λ (x : ParseState). length x.rest < length s.rest) (sym st.1.3) less
 
 -- ---- the greatest number of bytes
 
-pub fed_len : (fed : List ℕ) (s : Stage) → Fed fed s → s.at + length s.rest ≡ length fed
-fed_len fed s h = go s.ended h.stage
+pub fed_len : (fed : List ℕ) (s : ParseState) → Fed fed s → s.at + length s.rest ≡ length fed
+fed_len fed s h = go s.ended h.state
   where
     go : (e : Bool) → FedTo fed s e → s.at + length s.rest ≡ length fed
     go false o = omega (arith, o.1, ap length o.0.parts, length-append (front s.begun) s.rest)
     go true o = omega (arith, o.4, ap length o.3, length-append (text o.0) s.rest)
 
 -- if the rest has no whole item, there are fewer bytes than the most reads
-pub settled_len : (fed : List ℕ) (s : Stage) → Fed fed s → IsSettled s → length fed < 2199023255552
-settled_len fed s h settled = go s.ended h.stage settled
+pub settled_len : (fed : List ℕ) (s : ParseState) → Fed fed s → IsSettled s → length fed < 2199023255552
+settled_len fed s h settled = go s.ended h.state settled
   where
     go : (e : Bool) → FedTo fed s e → IsSettledAt e s → length fed < 2199023255552
-    go false o st = omega (arith, ap length o.0.parts, length-append (front s.begun) s.rest, front_len s.begun o.0.is_trace, waits_len (progress_in s) s.rest st)
+    go false o st = omega (arith, ap length o.0.parts, length-append (front s.begun) s.rest, prefix_len s.begun o.0.is_trace, waits_len (progress_in s) s.rest st)
     go true o none = omega (arith, ap length o.3, length-append (text o.0) s.rest, ap length none, text_len o.0 o.2)
 
 pub none_settled : IsSettled (record { begun = None; at = 0; ended = false; rest = [] })
@@ -243,13 +243,13 @@ cut_fault : (bytes : List ℕ) (t : ATrace) (offset : ℕ) → IsCutAfter bytes 
 cut_fault bytes t offset h = inr (inl (record { begun = h.begun; rest = h.rest; begins = h.begins; stands = h.stands; fault_is = ap (λ (n : ℕ). Cut n) h.place }))
 
 -- the bytes from which a trace was taken without a cut are its text
-pub whole_says : (bytes : List ℕ) (taken : Taken ATrace) → TakesFrom (λ trace t. trace ≡ t) bytes taken → taken.cut ≡ None → IsBytes bytes × Says bytes (Ok taken.sink)
+pub whole_says : (bytes : List ℕ) (taken : SinkTaken ATrace) → TakesFrom (λ trace t. trace ≡ t) bytes taken → taken.cut ≡ None → IsBytes bytes × Says bytes (Ok taken.sink)
 whole_says bytes taken h none = (h.bytes_fit, subst (λ (t : ATrace). Says bytes (Ok t)) (sym h.took_it) (subst (BeginsAs bytes h.trace) none h.begins))
 
-pub cut_says : (bytes : List ℕ) (taken : Taken ATrace) (offset : ℕ) → TakesFrom (λ trace t. trace ≡ t) bytes taken → taken.cut ≡ Some offset → IsBytes bytes × HasFault bytes (Cut offset)
+pub cut_says : (bytes : List ℕ) (taken : SinkTaken ATrace) (offset : ℕ) → TakesFrom (λ trace t. trace ≡ t) bytes taken → taken.cut ≡ Some offset → IsBytes bytes × HasFault bytes (Cut offset)
 cut_says bytes taken offset h cut = (h.bytes_fit, cut_fault bytes h.trace offset (subst (BeginsAs bytes h.trace) cut h.begins))
 
-pub begins_as : (bytes : List ℕ) (taken : Taken ATrace) → TakesFrom (λ trace t. trace ≡ t) bytes taken → BeginsAs bytes taken.sink taken.cut
+pub begins_as : (bytes : List ℕ) (taken : SinkTaken ATrace) → TakesFrom (λ trace t. trace ≡ t) bytes taken → BeginsAs bytes taken.sink taken.cut
 begins_as bytes taken h = subst (λ (t : ATrace). BeginsAs bytes t taken.cut) (sym h.took_it) h.begins
 
 -- each fault of reading into a sink is a fault of a text that has to be whole

@@ -10,8 +10,8 @@ use Rattle.cops_wire.specs.Answer.{Answers, BeginsWithTaking, IsAnswer}
 use Rattle.cops_wire.specs.declared.decoding.Decoded.{Decoded}
 use Rattle.cops_types.specs.OpViews.{op_viewed}
 use Rattle.cops_wire.specs.Message.{parts}
-use Rattle.cops_wire.specs.Records.{record_of_message, seen_message}
-use Rattle.cops_wire.proofs.Records.{seen_again}
+use Rattle.cops_wire.specs.Records.{record_of_message, borrowed_message}
+use Rattle.cops_wire.proofs.Records.{borrowed_again}
 use Rattle.cops_wire.specs.declared.record.TraceRecord.{TraceRecord}
 use Rattle.cops_wire.specs.declared.record_view.RecordView.{RecordView}
 use Rattle.cops_wire.specs.declared.message.Message.{Message}
@@ -26,7 +26,7 @@ use Rattle.cops_trace.specs.Next.{FrameIs, Progress, Stands, format_next, found_
 use Rattle.cops_trace.specs.Parsing.{progress_with, IsBegunAs, ItemHasRoom}
 use Rattle.cops_trace.specs.Reading.{ItemHasTurn}
 use Rattle.cops_types.specs.Operations.{operation_of}
-use Rattle.cops_trace.proofs.Growth.{op_in_format}
+use Rattle.cops_trace.proofs.Allocation.{op_in_format}
 use Rattle.cops_trace.proofs.Items.{given, op_fits, record_means, stood}
 
 fault_answer : (f : WireFault) (P : Result (Parts × ℕ) WireFault → Type 0) → f ≢ wire.Memory → Answers (Err f) P → P (Err f)
@@ -94,10 +94,10 @@ item_turn at (Some c) rest (Entry client op) used s = (given (Some (progress_fro
 item_turn at b rest End used s = tt
 
 -- a borrowed record at the front of the rest comes next
-pub seen_stands : (p : Progress) (rest : List ℕ) (r : RecordView) → IsAnswer (grammar p.format) rest (Ok (parts (seen_message r), r.used))
+pub seen_stands : (p : Progress) (rest : List ℕ) (r : RecordView) → IsAnswer (grammar p.format) rest (Ok (parts (borrowed_message r), r.used))
     → record_found p (record { client = r.client; index = r.index; op = op_viewed r.op }) r.used ≡ Gives (Entry r.client (op_viewed r.op)) r.used → Stands (Some p) rest (Gives (Entry r.client (op_viewed r.op)) r.used)
 seen_stands p rest r is found = record {
-  frame = Ok (seen_message r, r.used);
+  frame = Ok (borrowed_message r, r.used);
   frame_is = is;
-  found_is = record_means p (seen_message r) (record { client = r.client; index = r.index; op = op_viewed r.op }) r.used (seen_again r.client r.index r.op) ∙ found;
+  found_is = record_means p (borrowed_message r) (record { client = r.client; index = r.index; op = op_viewed r.op }) r.used (borrowed_again r.client r.index r.op) ∙ found;
 }

@@ -16,11 +16,11 @@ use Rattle.cops_wire.specs.declared.record.TraceRecord.{TraceRecord}
 use Rattle.cops_wire.specs.Records.{record_message, record_of_message}
 use Rattle.cops_wire.proofs.Records.{message_is, record_again}
 use Rattle.cops_wire.specs.Answer.{IsAnswer, IsBytes, IsShort}
-use Rattle.cops_wire.specs.Grammar.{grammar, Parts, spelling}
+use Rattle.cops_wire.specs.Grammar.{grammar, Parts, encoding}
 use Rattle.cops_wire.specs.Legal.{IsMessage}
-use Rattle.cops_wire.specs.Message.{parts, spelled}
+use Rattle.cops_wire.specs.Message.{parts, encoded}
 use Rattle.cops_wire.proofs.Messages.{first-in-second, parts-same}
-use Rattle.cops_wire.proofs.Codec.{same_answer, spelling_answered, answer_splits, spelling_bounds}
+use Rattle.cops_wire.proofs.Codec.{same_answer, encoding_answered, answer_splits, encoding_bounds}
 use Rattle.cops_wire.proofs.Frames.{answer_stays}
 use Rattle.cops_types.specs.Histories.{Operation, write, read, missed}
 use Rattle.cops_types.specs.Operations.{operation_of}
@@ -34,7 +34,7 @@ use Rattle.cops_trace.specs.Text.{ATrace, IsTrace, IsOp, turn}
 use Rattle.cops_trace.specs.Next.{Progress, FrameIs, Stands, found_in, unread, first_message, head_found, later_message, found_among, format_next, record_found, end_found}
 use Rattle.cops_trace.specs.Answer.{front, progress_at}
 use Rattle.cops_trace.specs.Parsing.{with_item, is_end}
-use Rattle.cops_trace.proofs.Growth.{beginning-none, beginning-grown, IsTrace-none, IsTrace-grown}
+use Rattle.cops_trace.proofs.Allocation.{beginning-none, beginning-grown, IsTrace-none, IsTrace-grown}
 
 -- ---- tests with a known outcome
 
@@ -142,10 +142,10 @@ one_item p i j h k e =
 -- ---- from what comes next to the bytes, and back
 
 -- a message's encoding in a format is its only encoding
-pub spelled_in : (format : Format) (m : Message) → IsMessage (grammar format) (parts m) → spelling (grammar format) (parts m) ≡ spelled m
-unfolding spelled
-spelled_in One m legal = sym (first-in-second m legal).1
-spelled_in Two m legal = refl
+pub encoded_in : (format : Format) (m : Message) → IsMessage (grammar format) (parts m) → encoding (grammar format) (parts m) ≡ encoded m
+unfolding encoded
+encoded_in One m legal = sym (first-in-second m legal).1
+encoded_in Two m legal = refl
 
 -- the item's message is legal in the format of the next frame
 abbrev pub IsLegalItem : Option Progress → Item → Type 0
@@ -155,24 +155,24 @@ IsLegalItem p i = IsMessage (grammar (format_next p)) (parts (item_message p i))
 pub record Stood (p : Option Progress) (rest : List ℕ) (i : Item) (used : ℕ) : Type 0 where
   pub allowed : Allows p i
   pub legal : IsLegalItem p i
-  pub used_is : used ≡ length (spelled (item_message p i))
-  pub parts_are : rest ≡ spelled (item_message p i) ++ drop used rest
+  pub used_is : used ≡ length (encoded (item_message p i))
+  pub parts_are : rest ≡ encoded (item_message p i) ++ drop used rest
 
 pub stood : (p : Option Progress) (rest : List ℕ) (i : Item) (used : ℕ) → Stands p rest (Gives i used) → Stood p rest i used
 stood p rest i used s =
     let g = given p s.frame i used s.found_is in
     let is = subst (FrameIs (format_next p) rest) g.1 s.frame_is in
     let a = answer_splits (format_next p) rest (parts (item_message p i)) used is in
-    let same = spelled_in (format_next p) (item_message p i) a.0 in
+    let same = encoded_in (format_next p) (item_message p i) a.0 in
     record { allowed = g.0; legal = a.0; used_is = a.1 ∙ ap length same; parts_are = a.2 ∙ ap (λ (x : List ℕ). x ++ drop used rest) same }
 
-pub stands_again : (p : Option Progress) (i : Item) (rest : List ℕ) → Allows p i → IsLegalItem p i → Stands p (spelled (item_message p i) ++ rest) (Gives i (length (spelled (item_message p i))))
+pub stands_again : (p : Option Progress) (i : Item) (rest : List ℕ) → Allows p i → IsLegalItem p i → Stands p (encoded (item_message p i) ++ rest) (Gives i (length (encoded (item_message p i))))
 stands_again p i rest allowed legal =
     let m = item_message p i in
     record {
-      frame = Ok (m, length (spelled m));
-      frame_is = subst (λ (x : List ℕ). IsAnswer (grammar (format_next p)) (x ++ rest) (Ok (parts m, length x))) (spelled_in (format_next p) m legal) (spelling_answered (format_next p) (parts m) rest legal);
-      found_is = again p i (length (spelled m)) allowed;
+      frame = Ok (m, length (encoded m));
+      frame_is = subst (λ (x : List ℕ). IsAnswer (grammar (format_next p)) (x ++ rest) (Ok (parts m, length x))) (encoded_in (format_next p) m legal) (encoding_answered (format_next p) (parts m) rest legal);
+      found_is = again p i (length (encoded m)) allowed;
     }
 
 ok_parts : (p q : Parts) (m n : ℕ) → ◌≡◌ {A = Result (Parts × ℕ) WireFault} (Ok (p, m)) (Ok (q, n)) → (p ≡ q) × (m ≡ n)
@@ -276,15 +276,15 @@ nothing_waits = record { frame = Err wire.Short; frame_is = inl (omega arith); f
 pub stands_used : (p : Option Progress) (rest : List ℕ) (i : Item) (used : ℕ) → Stands p rest (Gives i used) → (0 < used) × (used ≤ length rest) × (used ≤ 4 + longest_body (format_next p))
 stands_used p rest i used s =
     let st = stood p rest i used s in
-    let bounds = spelling_bounds (format_next p) (parts (item_message p i)) st.legal in
-    let same = ap length (spelled_in (format_next p) (item_message p i) st.legal) in
-    let all : length rest ≡ length (spelled (item_message p i)) + length (drop used rest) = ap length st.parts_are ∙ length-append (spelled (item_message p i)) (drop used rest) in
+    let bounds = encoding_bounds (format_next p) (parts (item_message p i)) st.legal in
+    let same = ap length (encoded_in (format_next p) (item_message p i) st.legal) in
+    let all : length rest ≡ length (encoded (item_message p i)) + length (drop used rest) = ap length st.parts_are ∙ length-append (encoded (item_message p i)) (drop used rest) in
     (omega (arith, st.used_is, same, bounds.0), omega (arith, st.used_is, all), omega (arith, st.used_is, same, bounds.1))
 
-pub spelled_len : (format : Format) (m : Message) → IsMessage (grammar format) (parts m) → (4 < length (spelled m)) × (length (spelled m) ≤ 131076)
-spelled_len format m legal =
-    let bounds = spelling_bounds format (parts m) legal in
-    let same = ap length (spelled_in format m legal) in
+pub encoded_len : (format : Format) (m : Message) → IsMessage (grammar format) (parts m) → (4 < length (encoded m)) × (length (encoded m) ≤ 131076)
+encoded_len format m legal =
+    let bounds = encoding_bounds format (parts m) legal in
+    let same = ap length (encoded_in format m legal) in
     (omega (arith, same, bounds.0), omega (arith, same, bounds.1, frame_most format))
 
 -- ---- the faults of frames
@@ -373,11 +373,11 @@ op_legal One c i (read key None version) cl il h = absurd h.1
 op_legal Two c i (write key None version) cl il h = (cl, (il, ((omega (arith, h.0.1), omega (arith, h.0.0), h.0.1), (h.2, tt))))
 op_legal Two c i (read key None version) cl il h = (cl, (il, ((omega (arith, h.0.1), omega (arith, h.0.0), h.0.1), (h.2, tt))))
 
-pub front_with : (b : Option ATrace) (i : Item) → Allows (progress_at b) i → is_end i ≡ false → front (with_item i b) ≡ front b ++ spelled (item_message (progress_at b) i)
-front_with None (Head format clients) h k = beginning-none format clients
-front_with (Some t) (Entry client op) h k = beginning-grown t (record { client = client; op = operation_of op })
-front_with (Some t) End h k = absurd cc
-front_with _ _ h k = absurd h
+pub prefix_with : (b : Option ATrace) (i : Item) → Allows (progress_at b) i → is_end i ≡ false → front (with_item i b) ≡ front b ++ encoded (item_message (progress_at b) i)
+prefix_with None (Head format clients) h k = beginning-none format clients
+prefix_with (Some t) (Entry client op) h k = beginning-grown t (record { client = client; op = operation_of op })
+prefix_with (Some t) End h k = absurd cc
+prefix_with _ _ h k = absurd h
 
 pub trace_with : (b : Option ATrace) (i : Item) → IfSome b IsTrace → Allows (progress_at b) i → IsLegalItem (progress_at b) i → is_end i ≡ false → IfSome (with_item i b) IsTrace
 trace_with None (Head format clients) t h legal k = IsTrace-none format clients legal.1.0

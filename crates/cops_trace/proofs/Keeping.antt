@@ -16,7 +16,7 @@ use Rattle.cops_trace.specs.Text.{ARecord, ATrace, IsTrace, IsOp, turn, sessions
 use Rattle.cops_trace.specs.Converting.{in_format_2}
 use Rattle.cops_trace.specs.Kept.{op_in, records_from, trace_of, IsKept, IsFull, grown}
 use Rattle.cops_trace.proofs.Lists.{same_or_other, turn-cons, times, times-append, times-cons, times-same}
-use Rattle.cops_trace.proofs.Growth.{IsTrace-grown, IsTrace-none, with_records}
+use Rattle.cops_trace.proofs.Allocation.{IsTrace-grown, IsTrace-none, with_records}
 
 -- ---- the sessions that records make
 
@@ -89,10 +89,10 @@ records_push h earlier (d ∷ cs) c =
     (records_push h (earlier ++ d ∷ []) cs c
     ∙ ap (λ (e : List ℕ). let r : ARecord = record { client = c; op = op_in h c (times c e) } in records_from h (earlier ++ d ∷ []) cs ++ r ∷ []) (append_assoc earlier (d ∷ []) cs))
 
-read_front : (s : List Operation) (op : Operation) (i : ℕ) → i < length s → get_or (s ++ op ∷ []) i (missed []) ≡ get_or s i (missed [])
-read_front [] op i lt = absurd (omega arith)
-read_front (x ∷ s) op zero lt = refl
-read_front (x ∷ s) op (suc i) lt = read_front s op i (omega arith)
+read_prefix : (s : List Operation) (op : Operation) (i : ℕ) → i < length s → get_or (s ++ op ∷ []) i (missed []) ≡ get_or s i (missed [])
+read_prefix [] op i lt = absurd (omega arith)
+read_prefix (x ∷ s) op zero lt = refl
+read_prefix (x ∷ s) op (suc i) lt = read_prefix s op i (omega arith)
 
 read_last : (s : List Operation) (op : Operation) → get_or (s ++ op ∷ []) (length s) (missed []) ≡ op
 read_last [] op = refl
@@ -106,7 +106,7 @@ op_stays h c d i op inside there =
       | inl p ↦
           let short : i < length s = subst (λ (x : ℕ). i < length (get_or h x [])) (sym p) there in
           let here : get_or (get_or (set h c (s ++ op ∷ [])) c []) i (missed []) ≡ get_or s i (missed [])
-          = ap (λ (l : List Operation). get_or l i (missed [])) (get_or-set_same h c (s ++ op ∷ []) [] inside) ∙ read_front s op i short in
+          = ap (λ (l : List Operation). get_or l i (missed [])) (get_or-set_same h c (s ++ op ∷ []) [] inside) ∙ read_prefix s op i short in
           subst (λ (x : ℕ). get_or (get_or (set h c (s ++ op ∷ [])) x []) i (missed []) ≡ get_or (get_or h x []) i (missed [])) p here
       | inr p ↦
           let other : d ≢ c = λ q. eqb-false _ _ p (sym q) in

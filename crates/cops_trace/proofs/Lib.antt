@@ -1,5 +1,5 @@
 pub mod Lists
-pub mod Growth
+pub mod Allocation
 pub mod Keeping
 pub mod Prefixes
 pub mod Items

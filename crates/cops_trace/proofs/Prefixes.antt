@@ -7,7 +7,7 @@ use Rattle.std.specs.Io.KnownBytes.{Appends}
 use Rattle.cops_types.proofs.Devices.{appends_more}
 use Rattle.cops_types.specs.declared.format.Format.{Format}
 use Rattle.cops_types.specs.Histories.{Sessions, op_at, Operation, missed}
-use Rattle.cops_wire.specs.Message.{spelled}
+use Rattle.cops_wire.specs.Message.{encoded}
 use Rattle.cops_wire.specs.Records.{record_message}
 use Rattle.cops_trace.specs.Counts.{ACounts, AreCountsOf, HasTurn, counted, next_of}
 use Rattle.cops_trace.specs.Text.{ARecord, ATrace, IsOp, IsTrace, beginning, end_text, record_text, records_text, text, turn}
@@ -15,7 +15,7 @@ use Rattle.cops_trace.specs.Kept.{grown, op_in, records_from, trace_of, IsKept}
 use Rattle.cops_trace.specs.Writing.{CountPrefix, HasSent, head_frame, prefix}
 use Rattle.cops_trace.proofs.Begun.{appends_none}
 use Rattle.cops_trace.proofs.Lists.{take_past, times, times-append, times-same}
-use Rattle.cops_trace.proofs.Growth.{beginning-grown, with_records}
+use Rattle.cops_trace.proofs.Allocation.{beginning-grown, with_records}
 use Rattle.cops_trace.proofs.Keeping.{kept_len, length-records_from, records_push, turn-records_from}
 use Rattle.cops_trace.proofs.Readings.{text_len}
 use Rattle.cops_trace.proofs.Underway.{counts_grown}
@@ -86,7 +86,7 @@ pub record IsNext (format : Format) (h : Sessions) (cs : List ℕ) (c : ACounts)
   pub turn : HasTurn c client
   pub is_there : op_at h (record { client = client; index = index }) ≡ Some (op_in h client index)
   pub counts : CountPrefix (trace_of format h cs) (counted c client)
-  pub text_is : beginning (prefix (c.total + 1) (trace_of format h cs)) ≡ beginning (prefix c.total (trace_of format h cs)) ++ spelled (record_message client index (op_in h client index))
+  pub text_is : beginning (prefix (c.total + 1) (trace_of format h cs)) ≡ beginning (prefix c.total (trace_of format h cs)) ++ encoded (record_message client index (op_in h client index))
 
 next_is : (format : Format) (h : Sessions) (cs : List ℕ) (c : ACounts) → IsKept format h cs → CountPrefix (trace_of format h cs) c → c.total < length cs
     → let client = get_or cs c.total 0 in IsNext format h cs c client (times client (take c.total cs))
@@ -113,7 +113,7 @@ next_is format h cs c k p lt =
         counts = subst (λ (u : ATrace). AreCountsOf u (counted c client)) (sym grows) (counts_grown (prefix i t) c r p.counts inside);
       };
       text_is = ap beginning grows ∙ beginning-grown (prefix i t) r
-          ∙ ap (λ (m : ℕ). beginning (prefix i t) ++ spelled (record_message client m (op_in h client n))) before;
+          ∙ ap (λ (m : ℕ). beginning (prefix i t) ++ encoded (record_message client m (op_in h client n))) before;
     }
 
 pub next_read : (format : Format) (h : Sessions) (cs : List ℕ) (c : ACounts) (client index : ℕ) → IsKept format h cs → CountPrefix (trace_of format h cs) c → c.total < length cs

@@ -25,7 +25,7 @@ use Rattle.cops_trace.specs.declared.found.Item.{Item}
 use Rattle.cops_trace.specs.declared.found.Item.TheVariants.{Head, Op as Entry, End}
 use Rattle.cops_trace.specs.declared.found.Found.{Found}
 use Rattle.cops_trace.specs.declared.found.Found.TheVariants.{Gives, Waits, Fails}
-use Rattle.cops_wire.specs.Message.{parts, spelled}
+use Rattle.cops_wire.specs.Message.{parts, encoded}
 use Rattle.cops_wire.specs.declared.message.Message.TheVariants.{TraceHead}
 use Rattle.cops_wire.specs.Records.{record_message}
 use Rattle.cops_trace.specs.Text.{ARecord, ATrace, IsTrace, IsOp, turn, record_text, records_text, beginning, text, end_text}
@@ -35,14 +35,14 @@ use Rattle.cops_trace.specs.Answer.{progress_of, progress_at, front, Begins, Has
 use Rattle.cops_trace.specs.Answer as answer
 use Rattle.cops_trace.specs.Parsing.{with_item, is_end}
 use Rattle.cops_trace.proofs.Lists.{all_back, turn-same}
-use Rattle.cops_trace.proofs.Growth.{with_records, IsTrace-front}
-use Rattle.cops_trace.proofs.Items.{item_message, Allows, IsLegalItem, one_item, stands_again, one_stands, op_legal, spelled_in, spelled_len}
+use Rattle.cops_trace.proofs.Allocation.{with_records, IsTrace-front}
+use Rattle.cops_trace.proofs.Items.{item_message, Allows, IsLegalItem, one_item, stands_again, one_stands, op_legal, encoded_in, encoded_len}
 
 -- ---- items in a row
 
 abbrev items_text : Option ATrace → List Item → List ℕ
 items_text b [] = []
-items_text b (i ∷ is) = spelled (item_message (progress_at b) i) ++ items_text (with_item i b) is
+items_text b (i ∷ is) = encoded (item_message (progress_at b) i) ++ items_text (with_item i b) is
 
 -- each item may come after those before it, and none is the end
 abbrev AllStand : Option ATrace → List Item → Type 0
@@ -62,11 +62,11 @@ stands_not_last b i is a rest all e last =
     let m = item_message (progress_at b) i in
     let more = items_text (with_item i b) is ++ rest in
     let here = stands_again (progress_at b) i more all.0 all.1 in
-    last i (length (spelled m)) all.2 (subst (λ (x : List ℕ). Stands (progress_at b) x (Gives i (length (spelled m)))) (sym (e ∙ append_assoc (spelled m) (items_text (with_item i b) is) rest)) here)
+    last i (length (encoded m)) all.2 (subst (λ (x : List ℕ). Stands (progress_at b) x (Gives i (length (encoded m)))) (sym (e ∙ append_assoc (encoded m) (items_text (with_item i b) is) rest)) here)
 
-pub same_message : (format : Format) (m n : Message) (x y : List ℕ) → IsMessage (grammar format) (parts m) → IsMessage (grammar format) (parts n) → spelled m ++ x ≡ spelled n ++ y → (m ≡ n) × (x ≡ y)
+pub same_message : (format : Format) (m n : Message) (x y : List ℕ) → IsMessage (grammar format) (parts m) → IsMessage (grammar format) (parts n) → encoded m ++ x ≡ encoded n ++ y → (m ≡ n) × (x ≡ y)
 same_message format m n x y legal_m legal_n e =
-    one_message format m n x y legal_m legal_n (ap (λ (l : List ℕ). l ++ x) (spelled_in format m legal_m) ∙ e ∙ ap (λ (l : List ℕ). l ++ y) (sym (spelled_in format n legal_n)))
+    one_message format m n x y legal_m legal_n (ap (λ (l : List ℕ). l ++ x) (encoded_in format m legal_m) ∙ e ∙ ap (λ (l : List ℕ). l ++ y) (sym (encoded_in format n legal_n)))
 
 -- two lists of items for the same bytes are equal
 same_items : (b : Option ATrace) (is js : List Item) (x y : List ℕ) → AllStand b is → AllStand b js → IsLast (after_items b is) x → IsLast (after_items b js) y
@@ -77,8 +77,8 @@ same_items b (i ∷ is) [] x y h k s t e = absurd (stands_not_last b i is y x h 
 same_items b (i ∷ is) (j ∷ js) x y h k s t e =
     let m = item_message (progress_at b) i in
     let n = item_message (progress_at b) j in
-    let split : spelled m ++ (items_text (with_item i b) is ++ x) ≡ spelled n ++ (items_text (with_item j b) js ++ y)
-    = sym (append_assoc (spelled m) (items_text (with_item i b) is) x) ∙ e ∙ append_assoc (spelled n) (items_text (with_item j b) js) y in
+    let split : encoded m ++ (items_text (with_item i b) is ++ x) ≡ encoded n ++ (items_text (with_item j b) js ++ y)
+    = sym (append_assoc (encoded m) (items_text (with_item i b) is) x) ∙ e ∙ append_assoc (encoded n) (items_text (with_item j b) js) y in
     let one = same_message (format_next (progress_at b)) m n _ _ h.1 k.1 split in
     let item = one_item (progress_at b) i j h.0 k.0 one.0 in
     let all_j : AllStand (with_item i b) js = subst (λ (o : Item). AllStand (with_item o b) js) (sym item) k.3 in
@@ -137,7 +137,7 @@ AreNamed f c rs = AllByRecursion (λ (s : ARecord). (s.client < c) × IsOp f s.o
 entries_text : (f : Format) (c : ℕ) (earlier rs : List ARecord) → AreNamed f c rs → items_text (Some (with_records f c earlier)) (entries rs) ≡ records_text earlier rs
 entries_text f c earlier [] named = refl
 entries_text f c earlier (r ∷ rs) named =
-    subst (λ (o : Operation). spelled (record_message r.client (turn r.client earlier) o) ++ items_text (Some (with_records f c (earlier ++ record { client = r.client; op = o } ∷ []))) (entries rs) ≡ records_text earlier (r ∷ rs)) (op_is f r.op named.0.1)
+    subst (λ (o : Operation). encoded (record_message r.client (turn r.client earlier) o) ++ items_text (Some (with_records f c (earlier ++ record { client = r.client; op = o } ∷ []))) (entries rs) ≡ records_text earlier (r ∷ rs)) (op_is f r.op named.0.1)
     (ap (λ (x : List ℕ). record_text earlier r ++ x) (entries_text f c (earlier ++ r ∷ []) rs named.1))
 
 entries_after : (f : Format) (c : ℕ) (earlier rs : List ARecord) → AreNamed f c rs → after_items (Some (with_records f c earlier)) (entries rs) ≡ Some (with_records f c (earlier ++ rs))
@@ -151,8 +151,8 @@ head_legal One clients few = (omega arith, (few, tt))
 head_legal Two clients few = (omega arith, (few, tt))
 
 -- the head is no longer than a frame may be
-pub head_few : (format : Format) (clients : ℕ) → clients < 2 ^ 16 → length (spelled (TraceHead (number_of format) clients)) ≤ 131076
-head_few format clients few = (spelled_len One (TraceHead (number_of format) clients) (head_legal format clients few)).1
+pub head_few : (format : Format) (clients : ℕ) → clients < 2 ^ 16 → length (encoded (TraceHead (number_of format) clients)) ≤ 131076
+head_few format clients few = (encoded_len One (TraceHead (number_of format) clients) (head_legal format clients few)).1
 
 pub end_legal : (t : ATrace) → IsTrace t → IsLegalItem (Some (progress_of t)) End
 end_legal t h = (omega (arith, h.all), tt)
@@ -177,8 +177,8 @@ unfolds (Some t) h = record {
 items_len : (b : Option ATrace) (is : List Item) → AllStand b is → length (items_text b is) ≤ 131076 * length is
 items_len b [] h = omega arith
 items_len b (i ∷ is) h =
-    let m = spelled (item_message (progress_at b) i) in
-    omega (arith, length-append m (items_text (with_item i b) is), (spelled_len (format_next (progress_at b)) (item_message (progress_at b) i) h.1).1, items_len (with_item i b) is h.3)
+    let m = encoded (item_message (progress_at b) i) in
+    omega (arith, length-append m (items_text (with_item i b) is), (encoded_len (format_next (progress_at b)) (item_message (progress_at b) i) h.1).1, items_len (with_item i b) is h.3)
 
 length-entries : (rs : List ARecord) → length (entries rs) ≡ length rs
 length-entries [] = refl
@@ -188,17 +188,17 @@ items_count : (b : Option ATrace) → IfSome b IsTrace → length (items_of b) �
 items_count None h = omega arith
 items_count (Some t) h = omega (arith, length-entries t.records, h.all)
 
-pub front_len : (b : Option ATrace) → IfSome b IsTrace → length (front b) ≤ 2097216131076
-front_len b h =
+pub prefix_len : (b : Option ATrace) → IfSome b IsTrace → length (front b) ≤ 2097216131076
+prefix_len b h =
     let u = unfolds b h in
     omega (arith, ap length u.text_is, items_len None (items_of b) u.all, items_count b h)
 
 pub text_len : (t : ATrace) → IsTrace t → length (text t) ≤ 2097216262152
-text_len t h = omega (arith, length-append (beginning t) (end_text t), front_len (Some t) h, (spelled_len t.format (TraceEnd (length t.records)) (end_legal t h)).1)
+text_len t h = omega (arith, length-append (beginning t) (end_text t), prefix_len (Some t) h, (encoded_len t.format (TraceEnd (length t.records)) (end_legal t h)).1)
 
 -- two prefixes of the same bytes, after which no head and no record comes, are equal
-pub fronts_one : (bytes : List ℕ) (b c : Option ATrace) (x y : List ℕ) → Begins bytes b x → Begins bytes c y → IsLast b x → IsLast c y → (b ≡ c) × (x ≡ y)
-fronts_one bytes b c x y h k s t =
+pub prefixes_one : (bytes : List ℕ) (b c : Option ATrace) (x y : List ℕ) → Begins bytes b x → Begins bytes c y → IsLast b x → IsLast c y → (b ≡ c) × (x ≡ y)
+prefixes_one bytes b c x y h k s t =
     let ub = unfolds b h.is_trace in
     let uc = unfolds c k.is_trace in
     let split : items_text None (items_of b) ++ x ≡ items_text None (items_of c) ++ y =
@@ -299,7 +299,7 @@ settles bytes (Err e) fits (inr (inr h)) =
 
 one_settled : (bytes : List ℕ) (a b : Result ATrace TraceFault) → IsBytes bytes → Settles bytes a → Settles bytes b → a ≡ b
 one_settled bytes a b fits h k =
-    let one = fronts_one bytes h.begun k.begun h.rest k.rest h.begins k.begins h.last k.last in
+    let one = prefixes_one bytes h.begun k.begun h.rest k.rest h.begins k.begins h.last k.last in
     let first : Stands (progress_at k.begun) h.rest h.found = subst (λ (o : Option ATrace). Stands (progress_at o) h.rest h.found) one.0 h.stands in
     let moved : Stands (progress_at k.begun) k.rest h.found = subst (λ (x : List ℕ). Stands (progress_at k.begun) x h.found) one.1 first in
     let found = one_stands (progress_at k.begun) k.rest h.found k.found (rest_fits bytes k.begun k.rest fits k.begins) moved k.stands in

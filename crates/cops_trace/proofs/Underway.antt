@@ -22,7 +22,7 @@ use Rattle.cops_trace.specs.Reading.{FailsIn, GivesNext, IsStoppedBy, IsWithinRe
 use Rattle.cops_trace.specs.Text.{ARecord, ATrace, turn}
 use Rattle.cops_trace.proofs.Feeding.{fed_more, fed_none, fed_so_far, fed_whole, none_settled, not_ended, step_fails, step_less, step_takes, step_waits}
 use Rattle.cops_trace.proofs.Founds.{item_room, item_turn, stands_after}
-use Rattle.cops_trace.proofs.Growth.{with_records}
+use Rattle.cops_trace.proofs.Allocation.{with_records}
 use Rattle.cops_trace.proofs.Items.{Allows, stands_still}
 use Rattle.cops_trace.proofs.Lists.{nothing_before, same_or_other, turn-other, turn-same}
 
@@ -173,7 +173,7 @@ module _ {S : Type 0} (took : S → ATrace → Type 0) where
   into_none begun r fresh none =
       subst (λ (o : Option S). SettledInto took [] o r) (sym none)
       (subst (λ (x : Reading). SettledInto took [] None x) (sym fresh)
-      (record { into = record { underway = record { trace = None; taken = tt; counts = tt }; stage = fed_none }; settled = none_settled }))
+      (record { into = record { underway = record { trace = None; taken = tt; counts = tt }; state = fed_none }; settled = none_settled }))
 
   -- after one more piece
   pub underway_more : (begun : Option S) (old new : Reading) (piece : List ℕ) → new ≡ record old { rest = old.rest ++ piece } → IsUnderway took begun old → IsUnderway took begun new
@@ -184,7 +184,7 @@ module _ {S : Type 0} (took : S → ATrace → Type 0) where
   into_more fed piece begun old new fits same h =
       subst (FedInto took (fed ++ piece) begun) (sym same) (record {
         underway = record { trace = h.underway.trace; taken = h.underway.taken; counts = h.underway.counts };
-        stage = fed_more fed piece (stage_of h.underway.trace old) fits h.stage;
+        state = fed_more fed piece (stage_of h.underway.trace old) fits h.state;
       })
 
   -- after the sink prepared for coming operations
@@ -195,7 +195,7 @@ module _ {S : Type 0} (took : S → ATrace → Type 0) where
   pub into_ready : (fed : List ℕ) (from to : Option S) (old new : Reading) → new ≡ old → ((t : Option ATrace) → IsTakenAs took from t → IsTakenAs took to t) → FedInto took fed from old → FedInto took fed to new
   into_ready fed from to old new same ready h =
       let u = h.underway in
-      subst (FedInto took fed to) (sym same) (record { underway = record { trace = u.trace; taken = ready u.trace u.taken; counts = u.counts }; stage = h.stage })
+      subst (FedInto took fed to) (sym same) (record { underway = record { trace = u.trace; taken = ready u.trace u.taken; counts = u.counts }; state = h.state })
 
   -- a step
   pub into_less : (old new : Reading) (from to : Option S) → IsUnderway took from old → ((t : Option ATrace) → IsTakenAs took from t → IsBegunAs t old.counts → StepsInto took (stage_of t old) (Ok true) to new)
@@ -211,19 +211,19 @@ module _ {S : Type 0} (took : S → ATrace → Type 0) where
   into_takes fed old new from to h steps =
       let u = h.underway in
       let next = steps u.trace u.taken u.counts in
-      record { underway = next.0; stage = step_takes fed (stage_of u.trace old) (stage_of next.0.trace new) h.stage next.1 }
+      record { underway = next.0; state = step_takes fed (stage_of u.trace old) (stage_of next.0.trace new) h.state next.1 }
 
   pub into_waits : (fed : List ℕ) (old new : Reading) (from to : Option S) → FedInto took fed from old → ((t : Option ATrace) → IsTakenAs took from t → IsBegunAs t old.counts → StepsInto took (stage_of t old) (Ok false) to new)
       → SettledInto took fed to new
   into_waits fed old new from to h steps =
       let u = h.underway in
       let next = steps u.trace u.taken u.counts in
-      let both = step_waits fed (stage_of u.trace old) (stage_of next.0.trace new) h.stage next.1 in
-      record { into = record { underway = next.0; stage = both.0 }; settled = both.1 }
+      let both = step_waits fed (stage_of u.trace old) (stage_of next.0.trace new) h.state next.1 in
+      record { into = record { underway = next.0; state = both.0 }; settled = both.1 }
 
   pub into_fails : (fed : List ℕ) (old new : Reading) (from to : Option S) (e : TraceFault) → FedInto took fed from old → ((t : Option ATrace) → IsTakenAs took from t → IsBegunAs t old.counts → StepsInto took (stage_of t old) (Err e) to new)
       → Stops fed e
-  into_fails fed old new from to e h steps = let u = h.underway in step_fails fed (stage_of u.trace old) e h.stage (steps u.trace u.taken u.counts)
+  into_fails fed old new from to e h steps = let u = h.underway in step_fails fed (stage_of u.trace old) e h.state (steps u.trace u.taken u.counts)
 
   -- ---- when no more bytes come
 
@@ -232,20 +232,20 @@ module _ {S : Type 0} (took : S → ATrace → Type 0) where
   closed_whole fed begun r sink same ended h =
       let u = h.into.underway in
       let t = taken_as begun sink u.trace same u.taken in
-      record { bytes_fit = h.into.stage.fits; trace = t.0; took_it = t.2; begins = fed_whole fed (stage_of u.trace r) t.0 h.into.stage ended t.1 h.settled }
+      record { bytes_fit = h.into.state.fits; trace = t.0; took_it = t.2; begins = fed_whole fed (stage_of u.trace r) t.0 h.into.state ended t.1 h.settled }
 
   -- the sink took the records before a cut
   pub closed_cut : (fed : List ℕ) (begun : Option S) (r : Reading) (sink : S) → begun ≡ Some sink → r.ended ≡ false → SettledInto took fed begun r → TakesFrom took fed (record { sink = sink; cut = Some r.at })
   closed_cut fed begun r sink same going h =
       let u = h.into.underway in
       let t = taken_as begun sink u.trace same u.taken in
-      let cut = fed_so_far fed (stage_of u.trace r) h.into.stage going h.settled in
-      record { bytes_fit = h.into.stage.fits; trace = t.0; took_it = t.2; begins = subst (λ (b : Option ATrace). IsCutAfter fed (unwrap_or b (record { format = One; clients = 0; records = [] })) r.at) t.1 cut }
+      let cut = fed_so_far fed (stage_of u.trace r) h.into.state going h.settled in
+      record { bytes_fit = h.into.state.fits; trace = t.0; took_it = t.2; begins = subst (λ (b : Option ATrace). IsCutAfter fed (unwrap_or b (record { format = One; clients = 0; records = [] })) r.at) t.1 cut }
 
   -- the sink took nothing, since the head was cut
   pub closed_none : (fed : List ℕ) (begun : Option S) (r : Reading) (sink : S) → begun ≡ None → took sink (record { format = One; clients = 0; records = [] }) → SettledInto took fed begun r → TakesFrom took fed (record { sink = sink; cut = Some r.at })
   closed_none fed begun r sink none fresh h =
       let u = h.into.underway in
       let nothing = none_taken begun u.trace none u.taken in
-      let cut = fed_so_far fed (stage_of u.trace r) h.into.stage (not_ended fed (stage_of u.trace r) h.into.stage nothing) h.settled in
-      record { bytes_fit = h.into.stage.fits; trace = record { format = One; clients = 0; records = [] }; took_it = fresh; begins = subst (λ (b : Option ATrace). IsCutAfter fed (unwrap_or b (record { format = One; clients = 0; records = [] })) r.at) nothing cut }
+      let cut = fed_so_far fed (stage_of u.trace r) h.into.state (not_ended fed (stage_of u.trace r) h.into.state nothing) h.settled in
+      record { bytes_fit = h.into.state.fits; trace = record { format = One; clients = 0; records = [] }; took_it = fresh; begins = subst (λ (b : Option ATrace). IsCutAfter fed (unwrap_or b (record { format = One; clients = 0; records = [] })) r.at) nothing cut }

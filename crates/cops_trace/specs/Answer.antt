@@ -5,7 +5,7 @@ use Rattle.cops_trace.specs.declared.fault.TraceFault.{TraceFault}
 use Rattle.cops_trace.specs.declared.fault.TraceFault.TheVariants.{Memory, ReadFailed, Cut, BytesAfterEnd}
 use Rattle.cops_trace.specs.declared.found.Found.TheVariants.{Waits, Fails}
 use Rattle.cops_trace.specs.declared.trace.Partial.{Partial}
-use Rattle.cops_trace.specs.declared.sink.Taken.{Taken}
+use Rattle.cops_trace.specs.declared.sink.SinkTaken.{SinkTaken}
 use Rattle.cops_wire.specs.Answer.{IsBytes}
 use Rattle.cops_trace.specs.Text.{ATrace, IsTrace, turn, beginning, text}
 use Rattle.cops_trace.specs.Next.{Progress, Stands}
@@ -97,13 +97,13 @@ AgreesSoFar bytes (Ok p) = BeginsAs bytes p.trace p.cut
 AgreesSoFar bytes (Err e) = (e ≡ Memory) ⊎ (e ≡ ReadFailed) ⊎ (HasFault bytes e × ((offset : ℕ) → e ≢ Cut offset))
 
 -- The sink took the records of these bytes: all of them, or the whole ones before a cut. `took` says which trace a sink took.
-pub record TakesFrom {S : Type 0} (took : S → ATrace → Type 0) (bytes : List ℕ) (taken : Taken S) : Type 0 where
+pub record TakesFrom {S : Type 0} (took : S → ATrace → Type 0) (bytes : List ℕ) (taken : SinkTaken S) : Type 0 where
   pub bytes_fit : IsBytes bytes
   pub trace : ATrace
   pub took_it : took taken.sink trace
   pub begins : BeginsAs bytes trace taken.cut
 
 -- the result of reading into a sink is right for the bytes: a cut is no fault
-abbrev pub AgreesInto : {S : Type 0} → (S → ATrace → Type 0) → List ℕ → Result (Taken S) TraceFault → Type 0
+abbrev pub AgreesInto : {S : Type 0} → (S → ATrace → Type 0) → List ℕ → Result (SinkTaken S) TraceFault → Type 0
 AgreesInto took bytes (Ok taken) = TakesFrom took bytes taken
 AgreesInto took bytes (Err e) = (e ≡ Memory) ⊎ (e ≡ ReadFailed) ⊎ (HasFault bytes e × ((offset : ℕ) → e ≢ Cut offset))

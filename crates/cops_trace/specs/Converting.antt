@@ -27,12 +27,12 @@ abbrev pub Converts : List ℕ → ℕ → Option (List ℕ) → Option (List �
 Converts bytes count old new = (t : ATrace) × IsConverted bytes t × (count ≡ length t.records) × Appends old new (text t)
 
 -- a proper prefix of a trace's text, of `count` bytes, was written
-abbrev pub AppendsFront : ATrace → ℕ → Option (List ℕ) → Option (List ℕ) → Type 0
-AppendsFront t count old new = (count < length (text t)) × Appends old new (take count (text t))
+abbrev pub AppendsPrefix : ATrace → ℕ → Option (List ℕ) → Option (List ℕ) → Type 0
+AppendsPrefix t count old new = (count < length (text t)) × Appends old new (take count (text t))
 
 -- a proper prefix of the converted trace's text, of `count` bytes, was written
-abbrev pub ConvertsFront : List ℕ → ℕ → Option (List ℕ) → Option (List ℕ) → Type 0
-ConvertsFront bytes count old new = (t : ATrace) × IsConverted bytes t × AppendsFront t count old new
+abbrev pub ConvertsPrefix : List ℕ → ℕ → Option (List ℕ) → Option (List ℕ) → Type 0
+ConvertsPrefix bytes count old new = (t : ATrace) × IsConverted bytes t × AppendsPrefix t count old new
 
 -- the fault of the conversion for a fault of reading
 abbrev pub fault_of_reading : TraceFault → ConvertFault
@@ -48,12 +48,12 @@ IsFaultOf bytes _ = Unit {0}
 -- what a failed write of a trace leaves: nothing if memory ran out, and a proper prefix of the text if a write failed
 abbrev pub IsUnwrittenAt : ATrace → ConvertFault → Option (List ℕ) → Option (List ℕ) → Type 0
 IsUnwrittenAt t Memory old new = Keeps old new
-IsUnwrittenAt t (WriteFailed count) old new = AppendsFront t count old new
+IsUnwrittenAt t (WriteFailed count) old new = AppendsPrefix t count old new
 IsUnwrittenAt t _ old new = ⊥
 
 -- a fault leaves the writer as it was, except if a write failed
 abbrev pub IsLeftAt : Option (List ℕ) → ConvertFault → Option (List ℕ) → Option (List ℕ) → Type 0
-IsLeftAt read (WriteFailed count) old new = IfSome read (λ bytes. ConvertsFront bytes count old new)
+IsLeftAt read (WriteFailed count) old new = IfSome read (λ bytes. ConvertsPrefix bytes count old new)
 IsLeftAt read _ old new = Keeps old new
 
 -- `WriteFailed` is returned exactly if the writer failed

@@ -52,8 +52,8 @@ IsHeardBy Memory old new = new ≡ old
 IsHeardBy (WriteFailed written) old new = Failed old new
 
 -- these bytes are a prefix of the trace's text
-abbrev pub IsFrontOf : List ℕ → ATrace → Type 0
-IsFrontOf bytes t = (rest : List ℕ) × (text t ≡ bytes ++ rest)
+abbrev pub IsPrefixOf : List ℕ → ATrace → Type 0
+IsPrefixOf bytes t = (rest : List ℕ) × (text t ≡ bytes ++ rest)
 
 -- like `IsCutBy` and `IsHeardBy`, for the faults of `finish`
 abbrev pub IsLeftBy : FinishFault → Option (List ℕ) → Option (List ℕ) → Type 0

@@ -20,13 +20,13 @@ abbrev pub progress_with : ℕ → ATrace → Progress
 progress_with at t = record { format = t.format; clients = t.clients; turn = λ client. turn client t.records; total = length t.records; at = at }
 
 -- the state of parsing: the trace of the head and the records so far, the number of bytes read, whether the end came, and the rest of the bytes
-pub record Stage : Type 0 where
+pub record ParseState : Type 0 where
   pub begun : Option ATrace
   pub at : ℕ
   pub ended : Bool
   pub rest : List ℕ
 
-abbrev pub progress_in : Stage → Option Progress
+abbrev pub progress_in : ParseState → Option Progress
 progress_in s = option_map (progress_with s.at) s.begun
 
 -- the trace with one more item
@@ -36,7 +36,7 @@ with_item (Entry client op) begun = option_map (λ t. grown t (record { client =
 with_item End begun = begun
 
 -- the state after an item of `used` bytes
-abbrev pub after : Item → ℕ → Stage → Stage
+abbrev pub after : Item → ℕ → ParseState → ParseState
 after item used s = record { begun = with_item item s.begun; at = s.at + used; ended = is_end item; rest = drop used s.rest }
 
 -- the trace so far may have a record's operation as its next
@@ -53,29 +53,29 @@ IsBegunAs (Some t) (Some c) = AreCountsOf t c
 IsBegunAs _ _ = ⊥
 
 -- These bytes are what was read in this state, followed by its rest.
-abbrev pub FedTo : List ℕ → Stage → Bool → Type 0
+abbrev pub FedTo : List ℕ → ParseState → Bool → Type 0
 FedTo fed s false = Begins fed s.begun s.rest × (s.at ≡ length (front s.begun))
 FedTo fed s true = (t : ATrace) × (s.begun ≡ Some t) × IsTrace t × (fed ≡ text t ++ s.rest) × (s.at ≡ length (text t))
 
-pub record Fed (fed : List ℕ) (s : Stage) : Type 0 where
+pub record Fed (fed : List ℕ) (s : ParseState) : Type 0 where
   pub fits : IsBytes fed
-  pub stage : FedTo fed s s.ended
+  pub state : FedTo fed s s.ended
 
 -- the rest has no whole item, and nothing after the end
-abbrev pub IsSettledAt : Bool → Stage → Type 0
+abbrev pub IsSettledAt : Bool → ParseState → Type 0
 IsSettledAt false s = Stands (progress_in s) s.rest Waits
 IsSettledAt true s = s.rest ≡ []
 
-abbrev pub IsSettled : Stage → Type 0
+abbrev pub IsSettled : ParseState → Type 0
 IsSettled s = IsSettledAt s.ended s
 
 -- the rest begins with this fault; after the end, a byte is a fault
-abbrev pub FailsAt : Bool → Stage → TraceFault → Type 0
+abbrev pub FailsAt : Bool → ParseState → TraceFault → Type 0
 FailsAt false s e = Stands (progress_in s) s.rest (Fails e)
 FailsAt true s e = (s.rest ≢ []) × (e ≡ BytesAfterEnd s.at)
 
 -- the result of a step, and the state after it: it took an item, there is no whole one, or there is a fault
-abbrev pub StepGives : Stage → Result Bool TraceFault → Stage → Type 0
+abbrev pub StepGives : ParseState → Result Bool TraceFault → ParseState → Type 0
 StepGives old (Ok true) new = (old.ended ≡ false) × ((item : Item) × (used : ℕ) × Stands (progress_in old) old.rest (Gives item used) × (new ≡ after item used old))
 StepGives old (Ok false) new = IsSettled old × (new ≡ old)
 StepGives old (Err e) new = (e ≡ Memory) ⊎ FailsAt old.ended old e
@@ -91,7 +91,7 @@ abbrev pub Stops : List ℕ → TraceFault → Type 0
 Stops fed e = (e ≡ Memory) ⊎ HasFailed fed e
 
 -- the state of parsing with a reader that returned the head and the records of a trace
-abbrev pub stage_of : Option ATrace → Reading → Stage
+abbrev pub stage_of : Option ATrace → Reading → ParseState
 stage_of begun r = record { begun = begun; at = r.at; ended = r.ended; rest = r.rest }
 
 -- ---- with a sink; `took` says which trace a sink took
@@ -112,7 +112,7 @@ module _ {S : Type 0} (took : S → ATrace → Type 0) where
   -- and that is what was read of these bytes
   pub record FedInto (fed : List ℕ) (begun : Option S) (r : Reading) : Type 0 where
     pub underway : IsUnderway begun r
-    pub stage : Fed fed (stage_of underway.trace r)
+    pub state : Fed fed (stage_of underway.trace r)
 
   -- and the rest has no whole item
   pub record SettledInto (fed : List ℕ) (begun : Option S) (r : Reading) : Type 0 where
@@ -120,7 +120,7 @@ module _ {S : Type 0} (took : S → ATrace → Type 0) where
     pub settled : IsSettled (stage_of into.underway.trace r)
 
   -- the result of a step, and the state after it
-  abbrev pub StepsInto : Stage → Result Bool TraceFault → Option S → Reading → Type 0
+  abbrev pub StepsInto : ParseState → Result Bool TraceFault → Option S → Reading → Type 0
   StepsInto old (Ok went) begun r = (new : IsUnderway begun r) × StepGives old (Ok went) (stage_of new.trace r)
   StepsInto old (Err e) begun r = (e ≡ Memory) ⊎ FailsAt old.ended old e
 

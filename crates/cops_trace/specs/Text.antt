@@ -8,7 +8,7 @@ use Rattle.cops_types.specs.KeyValue.{IsKey}
 use Rattle.cops_types.specs.Version.{IsVersion}
 use Rattle.cops_types.specs.Histories.{Sessions, Operation, write, read, missed, with_op}
 use Rattle.cops_wire.specs.declared.message.Message.TheVariants.{TraceHead, TraceEnd}
-use Rattle.cops_wire.specs.Message.{spelled}
+use Rattle.cops_wire.specs.Message.{encoded}
 use Rattle.cops_wire.specs.Records.{record_message}
 use Rattle.cops_trace.specs.declared.record.Record.{Record}
 use Rattle.cops_types.specs.Operations.{operation_of}
@@ -55,7 +55,7 @@ pub record IsTrace (t : ATrace) : Type 0 where
 
 -- the encoding of a record that comes after these: its index is the number of its client's earlier ones
 abbrev pub record_text : List ARecord → ARecord → List ℕ
-record_text earlier r = spelled (record_message r.client (turn r.client earlier) r.op)
+record_text earlier r = encoded (record_message r.client (turn r.client earlier) r.op)
 
 -- the encodings of records that come after these
 abbrev pub records_text : List ARecord → List ARecord → List ℕ
@@ -64,11 +64,11 @@ records_text earlier (r ∷ rs) = record_text earlier r ++ records_text (earlier
 
 -- the head, which names the format, and the records
 unfoldable pub beginning : ATrace → List ℕ
-beginning t = spelled (TraceHead (number_of t.format) t.clients) ++ records_text [] t.records
+beginning t = encoded (TraceHead (number_of t.format) t.clients) ++ records_text [] t.records
 
 -- the end, which counts the records
 abbrev pub end_text : ATrace → List ℕ
-end_text t = spelled (TraceEnd (length t.records))
+end_text t = encoded (TraceEnd (length t.records))
 
 -- the head, the records and the end
 abbrev pub text : ATrace → List ℕ

@@ -4,7 +4,7 @@ use Rattle.std.specs.Io.KnownBytes.{Appends, Keeps}
 use Rattle.cops_types.specs.declared.format.Format.{Format}
 use Rattle.cops_types.specs.Format.{number_of}
 use Rattle.cops_types.specs.Histories.{Operation}
-use Rattle.cops_wire.specs.Message.{spelled}
+use Rattle.cops_wire.specs.Message.{encoded}
 use Rattle.cops_wire.specs.Records.{record_message}
 use Rattle.cops_wire.specs.declared.message.Message.TheVariants.{TraceEnd, TraceHead}
 use Rattle.cops_trace.specs.Counts.{ACounts, AreCountsOf, next_of}
@@ -14,15 +14,15 @@ use Rattle.cops_trace.specs.declared.fault.WriteFault.TheVariants.{Memory, Write
 
 -- the head for a format and a number of clients
 abbrev pub head_frame : Format → ℕ → List ℕ
-head_frame format clients = spelled (TraceHead (number_of format) clients)
+head_frame format clients = encoded (TraceHead (number_of format) clients)
 
 -- the next record of a client
 abbrev pub record_frame : ACounts → ℕ → Operation → List ℕ
-record_frame c client op = spelled (record_message client (next_of c client) op)
+record_frame c client op = encoded (record_message client (next_of c client) op)
 
 -- the end, which counts the records
 abbrev pub end_frame : ACounts → List ℕ
-end_frame c = spelled (TraceEnd c.total)
+end_frame c = encoded (TraceEnd c.total)
 
 -- the number of bytes written in all, which stops at the greatest 64-bit number
 abbrev pub more_written : ℕ → ℕ → ℕ

@@ -28,7 +28,7 @@ pub use live::{LiveTrace, Unfinished};
 pub use reader::TraceReader;
 pub use reading::{read_into, read_so_far, read_trace};
 pub use record::Record;
-pub use sink::{Sink, Taken};
+pub use sink::{Sink, SinkTaken};
 pub use trace::{Partial, Trace};
 pub use writer::{TraceWriter, Unwritten};
 pub use writing::write_trace;

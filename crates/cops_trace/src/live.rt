@@ -32,7 +32,7 @@ impl<W: Write> LiveTrace<W> {
     ghost use Rattle.cops_types.specs.Format.{IsInFormat};
     ghost use Rattle.cops_types.specs.Operations.{operation_of};
     ghost use Rattle.cops_trace.specs.Counts.{HasTurn};
-    ghost use Rattle.cops_trace.specs.Live.{Gains, HasBegun, IsCutBy, IsCutShort, IsEndedBy, IsFrontOf, IsHeardBy, IsLeftBy, IsLive};
+    ghost use Rattle.cops_trace.specs.Live.{Gains, HasBegun, IsCutBy, IsCutShort, IsEndedBy, IsPrefixOf, IsHeardBy, IsLeftBy, IsLive};
     ghost use Rattle.cops_trace.specs.Text.{record_of, text};
 
     /// Writes the head for a format and a number of clients. Returns the writer if the head is not written.
@@ -144,7 +144,7 @@ impl<W: Write> LiveTrace<W> {
         ensures ok { IfOk result (λ w. Appends (W.contents (inner self.begun.value)) (W.contents (inner w)) (text trace.now)) }
         ensures heard { IfOk result (λ w. failures w ≡ failures self.begun.value) }
         ensures err { IfErr result (λ u. IsLeftBy u.fault (W.contents (inner self.begun.value)) (W.contents (inner u.writer))) }
-        ensures another { IfErr result (λ u. u.fault ≡ FinishFault.OfAnother → IsFrontOf self.text.items trace.now → ⊥) }
+        ensures another { IfErr result (λ u. u.fault ≡ FinishFault.OfAnother → IsPrefixOf self.text.items trace.now → ⊥) }
         ensures failed { IfErr result (λ u. IsEndedBy u.fault (failures self.begun.value) (failures u.writer)) }
     {
         let LiveTrace { writer, text, .. } = self;

@@ -7,7 +7,7 @@ ghost use Rattle.cops_types.specs.OpViews.{op_viewed};
 use crate::fault::TraceFault;
 use crate::found::Item;
 use crate::reader::TraceReader;
-use crate::sink::{Sink, Taken};
+use crate::sink::{Sink, SinkTaken};
 use cops_types::{Format, Memory, OpView};
 use std::alloc::Global;
 
@@ -98,21 +98,21 @@ impl<S: Sink> Parser<S> {
 
     /// The sink that took the whole records, when no more bytes come, and the offset of the cut if there was no end.
     /// Fails if memory runs out.
-    pub(crate) fn closed(self) -> Result<Taken<S>, Memory>
+    pub(crate) fn closed(self) -> Result<SinkTaken<S>, Memory>
         ensures { (fed : List ℕ) → SettledInto S.took fed self.begun self.reader → IfOk result (TakesFrom S.took fed) }
     {
         let at = self.reader.at();
         let ended = self.reader.has_ended();
         let Parser { alloc, begun, .. } = self;
         match begun {
-            Some(sink) if ended => Ok(Taken { sink, cut: None }),
-            Some(sink) => Ok(Taken {
+            Some(sink) if ended => Ok(SinkTaken { sink, cut: None }),
+            Some(sink) => Ok(SinkTaken {
                 sink,
                 cut: Some(at),
             }),
             None => {
                 let sink = S::begin(Format::One, alloc, 0)?;
-                Ok(Taken {
+                Ok(SinkTaken {
                     sink,
                     cut: Some(at),
                 })
@@ -152,12 +152,12 @@ fn begin<S: Sink>(
 }
 
 /// Lets the sink prepare for coming operations, if that is useful.
-pub(crate) fn foresee<S: Sink>(begun: &mut Option<S>, coming: &[OpView<'_>])
+pub(crate) fn prefetch<S: Sink>(begun: &mut Option<S>, coming: &[OpView<'_>])
     ensures { (t : Option ATrace) → IsTakenAs S.took begun.old t → IsTakenAs S.took begun.new t }
 {
     if let Some(sink) = begun {
         if sink.looks_ahead() {
-            sink.foresee(coming);
+            sink.prefetch(coming);
         }
     }
 }

@@ -8,7 +8,7 @@ use crate::counts::Counts;
 use crate::fault::TraceFault;
 use crate::finding::{first_found, later_found};
 use crate::found::{Found, Item};
-use crate::parser::foresee;
+use crate::parser::prefetch;
 use crate::sink::Sink;
 use cops_types::Memory;
 use cops_wire::Buffer;
@@ -142,7 +142,7 @@ impl TraceReader {
             return Ok(false);
         };
         let ahead = see_ahead(counts.format(), self.alloc, self.buffer.rest());
-        foresee(begun, &ahead.ops);
+        prefetch(begun, &ahead.ops);
         let taken = take_ahead(begun, counts, self.at, &ahead);
         drop(ahead);
         let len = taken?;

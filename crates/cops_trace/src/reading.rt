@@ -10,7 +10,7 @@ ghost use Rattle.cops_trace.specs.Parsing.{SettledInto};
 
 use crate::fault::TraceFault;
 use crate::parser::Parser;
-use crate::sink::{Sink, Taken};
+use crate::sink::{Sink, SinkTaken};
 use crate::trace::{Partial, Trace};
 use cops_types::{Counted, Memory};
 use std::alloc::Global;
@@ -56,7 +56,7 @@ fn read_items<S: Sink, R: Read>(
 pub fn read_into<S: Sink, R: Read>(
     alloc: Global,
     reader: &mut Counted<R>,
-) -> Result<Taken<S>, TraceFault>
+) -> Result<SinkTaken<S>, TraceFault>
     ensures says { IfSome (R.remaining (inner reader.old)) (λ bytes. AgreesInto S.took bytes result) }
     ensures failed { IsErrOf result TraceFault.ReadFailed → Failed (failures reader.old) (failures reader.new) }
     ensures heard { IsErrOf result TraceFault.ReadFailed ⊎ (failures reader.new ≡ failures reader.old) }

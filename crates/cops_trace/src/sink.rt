@@ -29,13 +29,13 @@ pub trait Sink: Drop {
     fn looks_ahead(&self) -> bool;
 
     /// Prefetches what these operations need, on the assumption that they come next and in this order.
-    fn foresee(&mut self, coming: &[OpView<'_>])
+    fn prefetch(&mut self, coming: &[OpView<'_>])
         ensures { (t : ATrace) → took self.old t → took self.new t };
 }
 
 /// The sink that took the whole records of a text, and the offset at which the text is cut, if it is cut.
 #[derive(Drop)]
-pub struct Taken<S: Drop> {
+pub struct SinkTaken<S: Drop> {
     pub sink: S,
     pub cut: Option<u64>,
 }
@@ -49,7 +49,7 @@ impl Sink for Trace {
     }
 
     fn take(&mut self, client: u16, op: &OpView<'_>) -> Result<(), Memory> {
-        match self.push_seen(client, op) {
+        match self.push_borrowed(client, op) {
             Ok(()) => Ok(()),
             Err(TypeFault::Memory) => Err(Memory),
             Err(_) => unreachable!(),
@@ -60,7 +60,7 @@ impl Sink for Trace {
         Trace::looks_ahead(self)
     }
 
-    fn foresee(&mut self, coming: &[OpView<'_>]) {
-        Trace::foresee(self, coming);
+    fn prefetch(&mut self, coming: &[OpView<'_>]) {
+        Trace::prefetch(self, coming);
     }
 }

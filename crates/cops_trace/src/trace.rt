@@ -3,14 +3,14 @@ ghost use Rattle.cops_types.specs.declared.format.Format.TheVariants.{One};
 ghost use Rattle.cops_types.specs.Format.{IsInFormat};
 ghost use Rattle.cops_types.specs.OpRefs.{seen};
 ghost use Rattle.cops_types.specs.OpViews.{viewed};
-ghost use Rattle.cops_wire.specs.Message.{spelled};
+ghost use Rattle.cops_wire.specs.Message.{encoded};
 ghost use Rattle.cops_wire.specs.Records.{record_message};
 ghost use Rattle.cops_trace.specs.Text.{IsOp};
 ghost use Rattle.cops_trace.specs.declared.trace.TheConstants.{LONGEST_FRAME};
 
 use crate::counts::Counts;
 use cops_types::{Format, History, MAX_BODY, Memory, Op, OpName, OpRef, OpView, TypeFault};
-use cops_wire::{encode_record, spelling_is_bounded};
+use cops_wire::{encode_record, encoding_is_bounded};
 use std::alloc::Global;
 use std::marker::Model;
 
@@ -109,7 +109,7 @@ impl Trace {
     }
 
     /// Like `push`, with a borrowed operation: copies what is new of it.
-    pub(crate) fn push_seen(&mut self, client: u16, op: &OpView<'_>) -> Result<(), TypeFault>
+    pub(crate) fn push_borrowed(&mut self, client: u16, op: &OpView<'_>) -> Result<(), TypeFault>
         requires { IsInFormat self.old.format (viewed op.now) }
         ensures ok { OnOk result (self.new ≡ grown self.old (record { client = client; op = viewed op.now })) }
         ensures err { OnErr result (self.new ≡ self.old) }
@@ -120,7 +120,7 @@ impl Trace {
         self.history.reserve(client)?;
         self.arrivals.reserve(1)?;
         legal_view(self.format, op);
-        match self.history.push_seen(client, op) {
+        match self.history.push_borrowed(client, op) {
             Ok(()) => {}
             Err(Memory) => return Err(TypeFault::Memory),
         }
@@ -135,10 +135,10 @@ impl Trace {
     }
 
     /// Prefetches the memory that coming operations need.
-    pub(crate) fn foresee(&mut self, coming: &[OpView<'_>])
+    pub(crate) fn prefetch(&mut self, coming: &[OpView<'_>])
         ensures { self.new ≡ self.old }
     {
-        self.history.foresee(coming);
+        self.history.prefetch(coming);
     }
 
     /// The sessions that the trace records.
@@ -218,18 +218,18 @@ pub struct Partial {
 }
 
 /// Appends the frame of an operation's record. It takes no memory where there is room for a frame.
-#[tactic(auto, unfolding(cops_wire::specs::Message::spelled))]
+#[tactic(auto, unfolding(cops_wire::specs::Message::encoded))]
 pub(crate) fn append_record(
     client: u16,
     index: u32,
     op: &OpRef<'_>,
     out: &mut Vec<u8>,
 ) -> Result<(), Memory>
-    ensures text { OnOk result (out.new.items ≡ out.old.items ++ spelled (record_message client index (seen op.now))) }
+    ensures text { OnOk result (out.new.items ≡ out.old.items ++ encoded (record_message client index (seen op.now))) }
     ensures succeeds { vec_len out.old + LONGEST_FRAME ≤ vec_capacity out.old → IsOk result }
     ensures capacity { vec_capacity out.old ≤ vec_capacity out.new }
 {
-    spelling_is_bounded();
+    encoding_is_bounded();
     encode_record(client, index, op, out)
 }
 

@@ -34,7 +34,7 @@ impl<W: Write> TraceWriter<W> {
     ghost use Rattle.cops_types.specs.Counted.{failures, inner};
     ghost use Rattle.cops_types.specs.Format.{IsInFormat};
     ghost use Rattle.cops_wire.specs.Legal.{IsLegalMessage};
-    ghost use Rattle.cops_wire.specs.Message.{spelled};
+    ghost use Rattle.cops_wire.specs.Message.{encoded};
     ghost use Rattle.cops_trace.specs.Counts.{HasTurn, counted, nothing};
     ghost use Rattle.cops_trace.specs.Writing.{IsUnwritten, end_frame, head_frame, more_written, record_frame};
 
@@ -161,14 +161,14 @@ impl<W: Write> TraceWriter<W> {
     /// Writes the frame of a legal message.
     fn write(&mut self, message: Message) -> Result<(), WriteFault>
         requires { IsLegalMessage message }
-        ensures ok { OnOk result (Appends (W.contents (inner self.old.writer)) (W.contents (inner self.new.writer)) (spelled message)) }
-        ensures err { IfErr result (IsUnwritten (spelled message) self.old.written (W.contents (inner self.old.writer)) (W.contents (inner self.new.writer))) }
-        ensures written { OnOk result (self.new.written ≡ more_written self.old.written (length (spelled message))) }
+        ensures ok { OnOk result (Appends (W.contents (inner self.old.writer)) (W.contents (inner self.new.writer)) (encoded message)) }
+        ensures err { IfErr result (IsUnwritten (encoded message) self.old.written (W.contents (inner self.old.writer)) (W.contents (inner self.new.writer))) }
+        ensures written { OnOk result (self.new.written ≡ more_written self.old.written (length (encoded message))) }
         ensures counts { self.new.counts ≡ self.old.counts }
         ensures failed { IfErr result (λ e. e ≢ WriteFault.Memory → Failed (failures self.old.writer) (failures self.new.writer)) }
         ensures heard { OnOk result (failures self.new.writer ≡ failures self.old.writer) }
         ensures quiet { IsErrOf result WriteFault.Memory → failures self.new.writer ≡ failures self.old.writer }
-        ensures frame { OnOk result (self.new.frame.items ≡ spelled message) }
+        ensures frame { OnOk result (self.new.frame.items ≡ encoded message) }
     {
         self.frame.clear();
         append(message, &mut self.frame).or(Err(WriteFault::Memory))?;

@@ -2,7 +2,7 @@
 ghost use Rattle.std.specs.Prelude.{◌≡◌, ◌≢◌, ◌≤◌, ◌<◌, ◌+◌, ◌^◌, ◌++◌, ℕ, [], length, take, vec_len, vec_capacity, OnOk, IfOk, IfErr, IsErrOf};
 ghost use Rattle.std.specs.Io.KnownBytes.{Appends, Keeps};
 ghost use Rattle.cops_wire.specs.Legal.{IsLegalMessage};
-ghost use Rattle.cops_wire.specs.Message.{spelled};
+ghost use Rattle.cops_wire.specs.Message.{encoded};
 ghost use Rattle.cops_trace.specs.Text.{beginning, end_text, text};
 ghost use Rattle.cops_trace.specs.Writing.{CountPrefix, HasSent, IsCutAt, prefix};
 ghost use Rattle.cops_trace.specs.declared.trace.TheConstants.{LONGEST_FRAME};
@@ -24,7 +24,7 @@ const PIECE: usize = 262_144;
 /// Appends the frame of a legal message.
 pub(crate) fn append(message: Message, out: &mut Vec<u8>) -> Result<(), Memory>
     requires { IsLegalMessage message }
-    ensures { OnOk result (out.new.items ≡ out.old.items ++ spelled message) }
+    ensures { OnOk result (out.new.items ≡ out.old.items ++ encoded message) }
 {
     let appended = encode(&message, out);
     drop(message);

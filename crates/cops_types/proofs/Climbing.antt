@@ -6,10 +6,10 @@ use Rattle.std.proofs.lemmas.Bool.{cases_eq, cases_lt}
 use Rattle.std.proofs.lemmas.List.{length-replicate}
 use Rattle.std.proofs.lemmas.Option.{slice_get_within}
 use Rattle.cops_types.specs.declared.op.OpName.{OpName}
-use Rattle.cops_types.specs.declared.heights.Heights.{Heights}
+use Rattle.cops_types.specs.declared.maxima.Maxima.{Maxima}
 use Rattle.cops_types.specs.Histories.{Sessions, op_at, with_op, PutsVersion, Operation, write, read, missed}
 use Rattle.cops_types.specs.Faults.{HasVersion, IsNotAbove, IsNotBelow}
-use Rattle.cops_types.specs.Heights.{AreSessionHeights, HasNotAbove, IsHeight, IsSessionAbove}
+use Rattle.cops_types.specs.Maxima.{AreSessionMaxima, HasNotAbove, IsMaximum, IsSessionAbove}
 use Rattle.cops_types.specs.Verdicts.{AllAbove}
 use Rattle.cops_types.proofs.Showing.{slice_get-end, stays_left, end_of}
 
@@ -93,27 +93,27 @@ first_below h earlier name f = elim (search_below h name f.own f.put (suc earlie
 ]
 
 -- the maximum of a session without operations is 0
-pub height_none : (h : Sessions) (client : ℕ) → IsHeight h client 0 0
-height_none h client = record { bounds = λ i v less has. absurd (omega (arith, less)); reached = inl refl }
+pub maximum_none : (h : Sessions) (client : ℕ) → IsMaximum h client 0 0
+maximum_none h client = record { bounds = λ i v less has. absurd (omega (arith, less)); reached = inl refl }
 
 -- the maximum after one more operation, given its version, or 0 if it has none
-pub height_next : (h : Sessions) (client i height number : ℕ) → IsHeight h client i height
+pub maximum_next : (h : Sessions) (client i maximum number : ℕ) → IsMaximum h client i maximum
     → ((v : ℕ) → HasVersion h (record { client = client; index = i }) v → number ≡ v) → (number ≡ 0) ⊎ HasVersion h (record { client = client; index = i }) number
-    → IsHeight h client (i + 1) (max height number)
-height_next h client i height number was is has = record {
+    → IsMaximum h client (i + 1) (max maximum number)
+maximum_next h client i maximum number was is has = record {
   bounds = λ k v less there. elim (eq-or-lt_of_le (let le : k ≤ i = omega (arith, less) in le)) [
     | inl same ↦ let e = is v (subst (λ (j : ℕ). HasVersion h (record { client = client; index = j }) v) same there) in omega (arith, e)
     | inr lower ↦ omega (arith, was.bounds k v lower there)
   ];
-  reached = elim (cases_lt height number) [
+  reached = elim (cases_lt maximum number) [
     | inl higher ↦
-        let e : max height number ≡ number = omega (arith, higher) in
+        let e : max maximum number ≡ number = omega (arith, higher) in
         elim has [
           | inl none ↦ inl (omega (arith, none, higher))
           | inr there ↦ inr (i, omega arith, subst (HasVersion h (record { client = client; index = i })) (sym e) there)
         ]
     | inr le ↦
-        let e : max height number ≡ height = omega (arith, le) in
+        let e : max maximum number ≡ maximum = omega (arith, le) in
         elim was.reached [
           | inl none ↦ inl (e ∙ none)
           | inr there ↦ inr (there.0, omega (arith, there.1), subst (HasVersion h (record { client = client; index = there.0 })) (sym e) there.2)
@@ -169,13 +169,13 @@ module _ (h : Sessions) (client : ℕ) (op : Operation) (inside : client < lengt
   has_was n v (inr a) = elim (op_was n (read a.0 a.1 v) a.2) [ inl old ↦ inl (inr (a.0, a.1, old)) | inr new ↦ inr (new.0, new.1) ]
 
   -- the sessions' maxima stay
-  height_kept : (c count height : ℕ) → count ≤ length (slice_index_or h c []) → IsHeight h c count height → IsHeight longer c count height
-  height_kept c count height within was = record {
+  maximum_kept : (c count maximum : ℕ) → count ≤ length (slice_index_or h c []) → IsMaximum h c count maximum → IsMaximum longer c count maximum
+  maximum_kept c count maximum within was = record {
     bounds = λ i v less has. elim (has_was (record { client = c; index = i }) v has) [
       | inl old ↦ was.bounds i v less old
       | inr new ↦ let e : length (slice_index_or h c []) ≡ length own = ap (λ (k : ℕ). length (slice_index_or h k [])) new.0 in absurd (omega (arith, less, within, e, new.1))
     ];
-    reached = elim was.reached [ inl none ↦ inl none | inr r ↦ inr (r.0, r.1, has_kept (record { client = c; index = r.0 }) height r.2) ];
+    reached = elim was.reached [ inl none ↦ inl none | inr r ↦ inr (r.0, r.1, has_kept (record { client = c; index = r.0 }) maximum r.2) ];
   }
 
   others_length : (c : ℕ) → c ≢ client → length (slice_index_or longer c []) ≡ length (slice_index_or h c [])
@@ -204,7 +204,7 @@ module _ (h : Sessions) (client : ℕ) (op : Operation) (inside : client < lengt
       let put = f.put in
       record { version = f.version; own = f.own; put = (put.0, put.1, op_kept n (write put.0 put.1 f.own) put.2); has = has_kept e f.version f.has; same_client = f.same_client; before = f.before; not_below = f.not_below }
 
-  module _ (old : Heights) (was : AreSessionHeights h old) where
+  module _ (old : Maxima) (was : AreSessionMaxima h old) where
     abbrev before_last : ℕ
     before_last = slice_index_or old.sessions.items client 0
 
@@ -247,20 +247,20 @@ module _ (h : Sessions) (client : ℕ) (op : Operation) (inside : client < lengt
     -- the maxima with the last operation's version, or with 0 if it has none
     module _ (number : ℕ) (is : (v : ℕ) → HasVersion longer last v → number ≡ v) (has : (number ≡ 0) ⊎ HasVersion longer last number) where
       -- the client's maximum takes in the number, and the others stay
-      pub heights_more : (heights : List ℕ) → length heights ≡ length old.sessions.items → slice_index_or heights client 0 ≡ max before_last number
-          → ((c : ℕ) → c ≢ client → slice_index_or heights c 0 ≡ slice_index_or old.sessions.items c 0)
-          → (c : ℕ) → c < length longer → IsHeight longer c (length (slice_index_or longer c [])) (slice_index_or heights c 0)
-      heights_more heights len own_height others c small =
+      pub maxima_more : (maxima : List ℕ) → length maxima ≡ length old.sessions.items → slice_index_or maxima client 0 ≡ max before_last number
+          → ((c : ℕ) → c ≢ client → slice_index_or maxima c 0 ≡ slice_index_or old.sessions.items c 0)
+          → (c : ℕ) → c < length longer → IsMaximum longer c (length (slice_index_or longer c [])) (slice_index_or maxima c 0)
+      maxima_more maxima len own_maximum others c small =
           let small' : c < length h = omega (arith, small, length-set h client (own ++ op ∷ [])) in
           elim (cases_eq c client) [
             | inl same ↦
-                let next = height_next longer client (length own) before_last number (height_kept client (length own) before_last (omega arith) (was.each client inside)) is has in
-                let at : IsHeight longer client (length (slice_index_or longer client [])) (slice_index_or heights client 0) =
-                subst (λ (k : ℕ). IsHeight longer client k (slice_index_or heights client 0)) (sym own_length) (subst (IsHeight longer client (length own + 1)) (sym own_height) next) in
-                subst (λ (k : ℕ). IsHeight longer k (length (slice_index_or longer k [])) (slice_index_or heights k 0)) (sym same) at
+                let next = maximum_next longer client (length own) before_last number (maximum_kept client (length own) before_last (omega arith) (was.each client inside)) is has in
+                let at : IsMaximum longer client (length (slice_index_or longer client [])) (slice_index_or maxima client 0) =
+                subst (λ (k : ℕ). IsMaximum longer client k (slice_index_or maxima client 0)) (sym own_length) (subst (IsMaximum longer client (length own + 1)) (sym own_maximum) next) in
+                subst (λ (k : ℕ). IsMaximum longer k (length (slice_index_or longer k [])) (slice_index_or maxima k 0)) (sym same) at
             | inr differs ↦
-                let kept = height_kept c (length (slice_index_or h c [])) (slice_index_or old.sessions.items c 0) (omega arith) (was.each c small') in
-                subst (λ (k : ℕ). IsHeight longer c k (slice_index_or heights c 0)) (sym (others_length c differs)) (subst (IsHeight longer c (length (slice_index_or h c []))) (sym (others c differs)) kept)
+                let kept = maximum_kept c (length (slice_index_or h c [])) (slice_index_or old.sessions.items c 0) (omega arith) (was.each c small') in
+                subst (λ (k : ℕ). IsMaximum longer c k (slice_index_or maxima c 0)) (sym (others_length c differs)) (subst (IsMaximum longer c (length (slice_index_or h c []))) (sym (others c differs)) kept)
           ]
 
   -- the other sessions
@@ -276,15 +276,15 @@ module _ (h : Sessions) (client : ℕ) (op : Operation) (inside : client < lengt
   pub still_not_above : (name earlier : OpName) → IsNotAbove h name earlier → (n : OpName) × (e : OpName) × IsNotAbove longer n e
   still_not_above name earlier f = let found = first_below longer earlier name (below_kept earlier name f.is_not_below) in (name, found.0, found.1)
 
-module _ (h : Sessions) (client : ℕ) (op : Operation) (inside : client < length h) (old new : Heights) (was : AreSessionHeights h old) where
+module _ (h : Sessions) (client : ℕ) (op : Operation) (inside : client < length h) (old new : Maxima) (was : AreSessionMaxima h old) where
   abbrev grown : Sessions
   grown = with_op h client op
 
   abbrev newest : OpName
   newest = record { client = client; index = length (slice_index_or h client []) }
 
-  abbrev own_height : ℕ
-  own_height = slice_index_or old.sessions.items client 0
+  abbrev own_maximum : ℕ
+  own_maximum = slice_index_or old.sessions.items client 0
 
   same_set : (number : ℕ) → new.sessions.items ≡ slice_set old.sessions.items client number → length new.sessions.items ≡ length old.sessions.items
   same_set number e = ap length e ∙ length-set old.sessions.items client number
@@ -313,14 +313,14 @@ module _ (h : Sessions) (client : ℕ) (op : Operation) (inside : client < lengt
   flag_own : new.rise.items ≡ slice_set old.rise.items client false → slice_index_or new.rise.items client false ≡ false
   flag_own e = ap (λ (l : List Bool). slice_index_or l client false) e ∙ get_or-set_same old.rise.items client false false (omega (arith, inside, was.flags))
 
-  pub took_low : (v : ℕ) (key : List ℕ) (content : Option (List ℕ)) → op ≡ write key content v → 0 < v → v ≤ own_height → new.sessions.items ≡ old.sessions.items → new.rise.items ≡ slice_set old.rise.items client false → new.are_above ≡ false
-      → AreSessionHeights (with_op h client op) new
+  pub took_low : (v : ℕ) (key : List ℕ) (content : Option (List ℕ)) → op ≡ write key content v → 0 < v → v ≤ own_maximum → new.sessions.items ≡ old.sessions.items → new.rise.items ≡ slice_set old.rise.items client false → new.are_above ≡ false
+      → AreSessionMaxima (with_op h client op) new
   took_low v key content e some low same flag not =
       let put : PutsVersion grown newest v = (key, content, last_there h client op inside ∙ ap (λ (x : Operation). Some x) e) in
       record {
         clients = clients_longer (ap length same);
-        each = heights_more h client op inside old was v (λ w has. one_has grown newest v w (inl put) has) (inr (inl put)) new.sessions.items (ap length same)
-            (ap (λ (l : List ℕ). slice_index_or l client 0) same ∙ (let m : own_height ≡ max own_height v = omega (arith, low) in m)) (λ c differs. ap (λ (l : List ℕ). slice_index_or l c 0) same);
+        each = maxima_more h client op inside old was v (λ w has. one_has grown newest v w (inl put) has) (inr (inl put)) new.sessions.items (ap length same)
+            (ap (λ (l : List ℕ). slice_index_or l client 0) same ∙ (let m : own_maximum ≡ max own_maximum v = omega (arith, low) in m)) (λ c differs. ap (λ (l : List ℕ). slice_index_or l c 0) same);
         flags = flags_longer (ap length flag ∙ length-set old.rise.items client false);
         session_above = λ c t. elim (cases_eq c client) [
           | inl equal ↦ let bad : true ≡ false = sym t ∙ ap (λ (k : ℕ). slice_index_or new.rise.items k false) equal ∙ flag_own flag in absurd cc
@@ -334,14 +334,14 @@ module _ (h : Sessions) (client : ℕ) (op : Operation) (inside : client < lengt
         not_above = λ _. let found = falls h client op inside old was v put some low in (found.0, found.1, found.3);
       }
 
-  pub took_high : (v : ℕ) (key : List ℕ) (content : Option (List ℕ)) → op ≡ write key content v → own_height < v → new.sessions.items ≡ slice_set old.sessions.items client v → new.rise.items ≡ old.rise.items → new.are_above ≡ old.are_above
-      → AreSessionHeights (with_op h client op) new
+  pub took_high : (v : ℕ) (key : List ℕ) (content : Option (List ℕ)) → op ≡ write key content v → own_maximum < v → new.sessions.items ≡ slice_set old.sessions.items client v → new.rise.items ≡ old.rise.items → new.are_above ≡ old.are_above
+      → AreSessionMaxima (with_op h client op) new
   took_high v key content e high same flag kept =
       let put : PutsVersion grown newest v = (key, content, last_there h client op inside ∙ ap (λ (x : Operation). Some x) e) in
       record {
         clients = clients_longer (same_set v same);
-        each = heights_more h client op inside old was v (λ w has. one_has grown newest v w (inl put) has) (inr (inl put)) new.sessions.items (same_set v same)
-            (own_set v same ∙ (let m : v ≡ max own_height v = omega (arith, high) in m)) (others_set v same);
+        each = maxima_more h client op inside old was v (λ w has. one_has grown newest v w (inl put) has) (inr (inl put)) new.sessions.items (same_set v same)
+            (own_set v same ∙ (let m : v ≡ max own_maximum v = omega (arith, high) in m)) (others_set v same);
         flags = flags_longer (ap length flag);
         session_above = λ c t. session_still_above h client op inside old was (λ w other. let s = one_version grown newest v w put other in omega (arith, s, high)) c (was.session_above c (flag_same flag c ∙ t));
         session_not_above = λ c small f. session_still_not_above h client op inside c (was.session_not_above c (was_there c small) (flag_same flag c ∙ f));
@@ -349,14 +349,14 @@ module _ (h : Sessions) (client : ℕ) (op : Operation) (inside : client < lengt
         not_above = λ f. let last = was.not_above (sym kept ∙ f) in still_not_above h client op inside last.0 last.1 last.2;
       }
 
-  pub took_got : (v : ℕ) (key : List ℕ) (content : Option (List ℕ)) → op ≡ read key content v → new.sessions.items ≡ slice_set old.sessions.items client (max own_height v) → new.rise.items ≡ old.rise.items → new.are_above ≡ old.are_above
-      → AreSessionHeights (with_op h client op) new
+  pub took_got : (v : ℕ) (key : List ℕ) (content : Option (List ℕ)) → op ≡ read key content v → new.sessions.items ≡ slice_set old.sessions.items client (max own_maximum v) → new.rise.items ≡ old.rise.items → new.are_above ≡ old.are_above
+      → AreSessionMaxima (with_op h client op) new
   took_got v key content e same flag kept =
       let at : op_at grown newest ≡ Some (read key content v) = last_there h client op inside ∙ ap (λ (x : Operation). Some x) e in
       record {
-        clients = clients_longer (same_set (max own_height v) same);
-        each = heights_more h client op inside old was v (λ w has. one_has grown newest v w (inr (key, content, at)) has) (inr (inr (key, content, at))) new.sessions.items (same_set (max own_height v) same)
-            (own_set (max own_height v) same) (others_set (max own_height v) same);
+        clients = clients_longer (same_set (max own_maximum v) same);
+        each = maxima_more h client op inside old was v (λ w has. one_has grown newest v w (inr (key, content, at)) has) (inr (inr (key, content, at))) new.sessions.items (same_set (max own_maximum v) same)
+            (own_set (max own_maximum v) same) (others_set (max own_maximum v) same);
         flags = flags_longer (ap length flag);
         session_above = λ c t. session_still_above h client op inside old was (λ w other. let bad : Some (write other.0 other.1 w) ≡ Some (read key content v) = sym other.2 ∙ at in absurd cc) c (was.session_above c (flag_same flag c ∙ t));
         session_not_above = λ c small f. session_still_not_above h client op inside c (was.session_not_above c (was_there c small) (flag_same flag c ∙ f));
@@ -365,13 +365,13 @@ module _ (h : Sessions) (client : ℕ) (op : Operation) (inside : client < lengt
       }
 
   pub took_missed : (key : List ℕ) → op ≡ missed key → new.sessions.items ≡ old.sessions.items → new.rise.items ≡ old.rise.items → new.are_above ≡ old.are_above
-      → AreSessionHeights (with_op h client op) new
+      → AreSessionMaxima (with_op h client op) new
   took_missed key e same flag kept =
       let at : op_at grown newest ≡ Some (missed key) = last_there h client op inside ∙ ap (λ (x : Operation). Some x) e in
       record {
         clients = clients_longer (ap length same);
-        each = heights_more h client op inside old was 0 (λ w has. absurd (missed_has grown newest key w at has)) (inl refl) new.sessions.items (ap length same)
-            (ap (λ (l : List ℕ). slice_index_or l client 0) same ∙ (let m : own_height ≡ max own_height 0 = omega arith in m)) (λ c differs. ap (λ (l : List ℕ). slice_index_or l c 0) same);
+        each = maxima_more h client op inside old was 0 (λ w has. absurd (missed_has grown newest key w at has)) (inl refl) new.sessions.items (ap length same)
+            (ap (λ (l : List ℕ). slice_index_or l client 0) same ∙ (let m : own_maximum ≡ max own_maximum 0 = omega arith in m)) (λ c differs. ap (λ (l : List ℕ). slice_index_or l c 0) same);
         flags = flags_longer (ap length flag);
         session_above = λ c t. session_still_above h client op inside old was (λ w other. let bad : Some (write other.0 other.1 w) ≡ Some (missed key) = sym other.2 ∙ at in absurd cc) c (was.session_above c (flag_same flag c ∙ t));
         session_not_above = λ c small f. session_still_not_above h client op inside c (was.session_not_above c (was_there c small) (flag_same flag c ∙ f));
@@ -385,10 +385,10 @@ empty_session zero client = refl
 empty_session (suc clients) zero = refl
 empty_session (suc clients) (suc client) = empty_session clients client
 
-zero_height : (clients client : ℕ) → slice_index_or (replicate clients zero) client 0 ≡ 0
-zero_height zero client = refl
-zero_height (suc clients) zero = refl
-zero_height (suc clients) (suc client) = zero_height clients client
+zero_maximum : (clients client : ℕ) → slice_index_or (replicate clients zero) client 0 ≡ 0
+zero_maximum zero client = refl
+zero_maximum (suc clients) zero = refl
+zero_maximum (suc clients) (suc client) = zero_maximum clients client
 
 nothing_there : (clients : ℕ) (n : OpName) (x : Operation) → ¬ (op_at (replicate clients []) n ≡ Some x)
 nothing_there clients n x at = let e : None ≡ Some x = sym (ap (λ (s : List Operation). slice_get s n.index) (empty_session clients n.client)) ∙ at in cc
@@ -398,19 +398,19 @@ all_rise zero client small = absurd (omega (arith, small))
 all_rise (suc clients) zero small = refl
 all_rise (suc clients) (suc client) small = all_rise clients client (omega (arith, small))
 
-pub no_heights : (clients : ℕ) (heights : Heights) → heights.sessions.items ≡ replicate clients 0 → heights.rise.items ≡ replicate clients true → heights.are_above ≡ true
-    → AreSessionHeights (replicate clients []) heights
-no_heights clients heights are rise above = record {
+pub no_maxima : (clients : ℕ) (maxima : Maxima) → maxima.sessions.items ≡ replicate clients 0 → maxima.rise.items ≡ replicate clients true → maxima.are_above ≡ true
+    → AreSessionMaxima (replicate clients []) maxima
+no_maxima clients maxima are rise above = record {
   clients = ap length are ∙ length-replicate clients 0 ∙ sym (length-replicate {A = List Operation} clients []);
   each = λ client small.
       let len : length (slice_index_or (replicate clients (let none : List Operation = [] in none)) client []) ≡ 0 = ap length (empty_session clients client) in
-      let low : slice_index_or heights.sessions.items client 0 ≡ 0 = ap (λ (l : List ℕ). slice_index_or l client 0) are ∙ zero_height clients client in
-      subst (λ (k : ℕ). IsHeight (replicate clients []) client k (slice_index_or heights.sessions.items client 0)) (sym len)
-      (subst (IsHeight (replicate clients []) client 0) (sym low) (height_none (replicate clients []) client));
+      let low : slice_index_or maxima.sessions.items client 0 ≡ 0 = ap (λ (l : List ℕ). slice_index_or l client 0) are ∙ zero_maximum clients client in
+      subst (λ (k : ℕ). IsMaximum (replicate clients []) client k (slice_index_or maxima.sessions.items client 0)) (sym len)
+      (subst (IsMaximum (replicate clients []) client 0) (sym low) (maximum_none (replicate clients []) client));
   flags = ap length rise ∙ length-replicate clients true ∙ sym (length-replicate {A = List Operation} clients []);
   session_above = λ client t name earlier of f. let put = f.is_not_below.put in nothing_there clients name (write put.0 put.1 f.is_not_below.own) put.2;
   session_not_above = λ client small f.
-      let up : slice_index_or heights.rise.items client false ≡ true =
+      let up : slice_index_or maxima.rise.items client false ≡ true =
       ap (λ (l : List Bool). slice_index_or l client false) rise ∙ all_rise clients client (omega (arith, small, length-replicate {A = List Operation} clients [])) in
       let bad : true ≡ false = sym up ∙ f in absurd cc;
   above = λ t name earlier f. let put = f.is_not_below.put in nothing_there clients name (write put.0 put.1 f.is_not_below.own) put.2;
@@ -418,8 +418,8 @@ no_heights clients heights are rise above = record {
 }
 
 -- a maximum read at its index
-pub read_at : (heights : List ℕ) (k x : ℕ) → k < length heights → x ≡ slice_index_or heights k x → x ≡ slice_index_or heights k 0
-read_at heights k x inside at = at ∙ inside_default heights k inside
+pub read_at : (maxima : List ℕ) (k x : ℕ) → k < length maxima → x ≡ slice_index_or maxima k x → x ≡ slice_index_or maxima k 0
+read_at maxima k x inside at = at ∙ inside_default maxima k inside
   where
     inside_default : (xs : List ℕ) (i : ℕ) → i < length xs → slice_index_or xs i x ≡ slice_index_or xs i 0
     inside_default [] i less = absurd (omega (arith, less))

@@ -4,20 +4,20 @@ use Rattle.std.proofs.Math.ListN.{set, length-set}
 use Rattle.std.proofs.lemmas.List.{length-replicate, length-map}
 use Rattle.std.proofs.lemmas.List.Sums.{sum_by-set, sum_by-cons}
 use Rattle.std.proofs.lemmas.List.Folds.{sum_by-replicate}
-use Rattle.cops_types.specs.declared.entry.Entry.{Entry}
+use Rattle.cops_types.specs.declared.entry.StoredOp.{StoredOp}
 use Rattle.cops_types.specs.Counts.{count_of, is_put, put_count}
-use Rattle.cops_types.specs.Entries.{EntryLists, KeptEntries, KeepsEntries, GainsEntry, IsSound, AreSound, told, told_by, key_number_of, puts_in}
-use Rattle.cops_types.specs.declared.entry.Entry.TheVariants.{Put, Got, Sourced, Missed}
+use Rattle.cops_types.specs.Entries.{EntryLists, KeptEntries, KeepsEntries, GainsEntry, IsSound, AreSound, reported, reported_by, key_number_of, puts_in}
+use Rattle.cops_types.specs.declared.entry.StoredOp.TheVariants.{Put, Got, Sourced, Missed}
 use Rattle.cops_types.specs.Lists.{item_at, with_item}
 use Rattle.cops_types.specs.Histories.{Sessions, with_op, Operation}
-use Rattle.cops_types.specs.Heights.{AreSessionHeights}
-use Rattle.cops_types.specs.declared.heights.Heights.{Heights}
+use Rattle.cops_types.specs.Maxima.{AreSessionMaxima}
+use Rattle.cops_types.specs.declared.maxima.Maxima.{Maxima}
 use Rattle.cops_types.specs.Keeping.{IsKept, flag_count}
 use Rattle.cops_types.specs.KeySets.{AreDistinct, GainsKey, KeptKeys}
 use Rattle.cops_types.specs.Recorded.{IsWithinLimits}
 use Rattle.cops_types.proofs.Sessions.{at_or_other, count-with_op, within_with_op, none_of, none_within, count-none, puts-none, puts-with_op}
 use Rattle.cops_types.proofs.Showing.{slice_get-end}
-use Rattle.cops_types.proofs.Telling.{told_by-with_item, sound-with_item, told-none}
+use Rattle.cops_types.proofs.Reporting.{reported_by-with_item, sound-with_item, reported-none}
 
 -- ---- puts
 
@@ -26,11 +26,11 @@ flag-le true = omega arith
 flag-le false = omega arith
 
 -- an entry counts as a put exactly if its operation is one
-puts-told : (keys : List (List ℕ)) (all : EntryLists) (e : Entry) → puts_in e ≡ flag_count (is_put (told keys all e))
-puts-told keys all (Put key value version) = refl
-puts-told keys all (Got key value version) = refl
-puts-told keys all (Sourced key put version) = refl
-puts-told keys all (Missed key) = refl
+puts-reported : (keys : List (List ℕ)) (all : EntryLists) (e : StoredOp) → puts_in e ≡ flag_count (is_put (reported keys all e))
+puts-reported keys all (Put key value version) = refl
+puts-reported keys all (Got key value version) = refl
+puts-reported keys all (Sourced key put version) = refl
+puts-reported keys all (Missed key) = refl
 
 -- ---- flags
 
@@ -53,15 +53,15 @@ no_flag (suc n) (suc c) = no_flag n c
 
 -- ---- a history with no operation
 
-pub new_kept : (keys : KeptKeys) (entries : KeptEntries) (heights : Heights) (n : ℕ) → n ≤ 65535 → keys.keys ≡ [] → entries.all ≡ replicate n [] → entries.names ≡ [] → entries.gets ≡ []
-    → AreSessionHeights (replicate n []) heights → IsKept keys entries heights (replicate n false) 0 0
-new_kept keys entries heights n le no_keys no_entries no_names no_gets low =
-    let none : told_by keys.keys entries.all ≡ replicate n [] = ap (λ (all : EntryLists). map (map (told keys.keys entries.all)) all) no_entries ∙ told-none keys.keys entries.all n in
+pub new_kept : (keys : KeptKeys) (entries : KeptEntries) (maxima : Maxima) (n : ℕ) → n ≤ 65535 → keys.keys ≡ [] → entries.all ≡ replicate n [] → entries.names ≡ [] → entries.gets ≡ []
+    → AreSessionMaxima (replicate n []) maxima → IsKept keys entries maxima (replicate n false) 0 0
+new_kept keys entries maxima n le no_keys no_entries no_names no_gets low =
+    let none : reported_by keys.keys entries.all ≡ replicate n [] = ap (λ (all : EntryLists). map (map (reported keys.keys entries.all)) all) no_entries ∙ reported-none keys.keys entries.all n in
     record {
       limits = subst IsWithinLimits (sym none) (none_within n le);
       count = sym (ap count_of none ∙ count-none n);
       counted = ap length no_names ∙ sym (ap put_count none ∙ puts-none n);
-      sound = λ name e at. let gone : None ≡ Some e = ap (λ (s : List Entry). slice_get s name.index) (sym (none_of n name.client)) ∙ ap (λ (all : EntryLists). item_at all name) (sym no_entries) ∙ at in cc;
+      sound = λ name e at. let gone : None ≡ Some e = ap (λ (s : List StoredOp). slice_get s name.index) (sym (none_of n name.client)) ∙ ap (λ (all : EntryLists). item_at all name) (sym no_entries) ∙ at in cc;
       distinct = λ i j key at also. let gone : None ≡ Some key = ap (λ (k : List (List ℕ)). slice_get k i) (sym no_keys) ∙ at in cc;
       few = omega (arith, ap length no_keys);
       flags = length-replicate n false ∙ sym (ap length no_entries ∙ length-replicate n []);
@@ -72,26 +72,26 @@ new_kept keys entries heights n le no_keys no_entries no_names no_gets low =
       get_places = omega arith;
       few_names = omega (arith, ap length no_names);
       few_gets = omega (arith, ap length no_gets);
-      get_keys = λ number e at. let gone : None ≡ Some e = ap (λ (s : List Entry). slice_get s number) (sym no_gets) ∙ at in cc;
-      session_heights = subst (λ (h : Sessions). AreSessionHeights h heights) (sym none) low;
+      get_keys = λ number e at. let gone : None ≡ Some e = ap (λ (s : List StoredOp). slice_get s number) (sym no_gets) ∙ at in cc;
+      session_maxima = subst (λ (h : Sessions). AreSessionMaxima h maxima) (sym none) low;
     }
 
 -- ---- reserved room
 
-module _ (k k' : KeptKeys) (e e' : KeptEntries) (heights : Heights) (reserved : List Bool) (reservations len : ℕ) (keys : k'.keys ≡ k.keys) (spare : k.spare ≤ k'.spare) (keeps : KeepsEntries e e')
-    (kept : IsKept k e heights reserved reservations len) where
+module _ (k k' : KeptKeys) (e e' : KeptEntries) (maxima : Maxima) (reserved : List Bool) (reservations len : ℕ) (keys : k'.keys ≡ k.keys) (spare : k.spare ≤ k'.spare) (keeps : KeepsEntries e e')
+    (kept : IsKept k e maxima reserved reservations len) where
   abbrev all : e'.all ≡ e.all
   all = keeps.all
 
-  pub same_told : told_by k'.keys e'.all ≡ told_by k.keys e.all
-  same_told = λ j. told_by (keys j) (all j)
+  pub same_reported : reported_by k'.keys e'.all ≡ reported_by k.keys e.all
+  same_reported = λ j. reported_by (keys j) (all j)
 
   -- more room keeps the invariant
-  pub room_kept : IsKept k' e' heights reserved reservations len
+  pub room_kept : IsKept k' e' maxima reserved reservations len
   room_kept = record {
-    limits = subst IsWithinLimits (sym same_told) kept.limits;
-    count = kept.count ∙ ap count_of (sym same_told);
-    counted = ap length keeps.names ∙ kept.counted ∙ ap put_count (sym same_told);
+    limits = subst IsWithinLimits (sym same_reported) kept.limits;
+    count = kept.count ∙ ap count_of (sym same_reported);
+    counted = ap length keeps.names ∙ kept.counted ∙ ap put_count (sym same_reported);
     sound = subst (λ (ks : List (List ℕ)). AreSound ks e'.all) (sym keys) (subst (AreSound k.keys) (sym all) kept.sound);
     distinct = subst AreDistinct (sym keys) kept.distinct;
     few = omega (arith, ap length keys, kept.few);
@@ -103,13 +103,13 @@ module _ (k k' : KeptKeys) (e e' : KeptEntries) (heights : Heights) (reserved : 
     get_places = omega (arith, kept.get_places, keeps.more_gets);
     few_names = omega (arith, kept.few_names, ap length keeps.names);
     few_gets = omega (arith, kept.few_gets, ap length keeps.gets);
-    get_keys = λ number x at. omega (arith, kept.get_keys number x (sym (ap (λ (s : List Entry). slice_get s number) keeps.gets) ∙ at), ap length keys);
-    session_heights = subst (λ (h : Sessions). AreSessionHeights h heights) (sym same_told) kept.session_heights;
+    get_keys = λ number x at. omega (arith, kept.get_keys number x (sym (ap (λ (s : List StoredOp). slice_get s number) keeps.gets) ∙ at), ap length keys);
+    session_maxima = subst (λ (h : Sessions). AreSessionMaxima h maxima) (sym same_reported) kept.session_maxima;
   }
 
   -- one more reservation
   pub flag_kept : (client : ℕ) → client < length e.all → get_or reserved client false ≡ false → get_or e'.room client false ≡ true → reservations + 1 ≤ k'.spare → reservations + 1 ≤ e'.more_puts → reservations + 1 ≤ e'.more_gets
-      → IsKept k' e' heights (set reserved client true) (reservations + 1) len
+      → IsKept k' e' maxima (set reserved client true) (reservations + 1) len
   flag_kept client inside was has places put_places get_places = record {
     limits = room_kept.limits;
     count = room_kept.count;
@@ -129,23 +129,23 @@ module _ (k k' : KeptKeys) (e e' : KeptEntries) (heights : Heights) (reserved : 
     few_names = room_kept.few_names;
     few_gets = room_kept.few_gets;
     get_keys = room_kept.get_keys;
-    session_heights = room_kept.session_heights;
+    session_maxima = room_kept.session_maxima;
   }
 
 -- ---- one more operation
 
-module _ (k k' : KeptKeys) (e e' : KeptEntries) (heights : Heights) (reserved : List Bool) (reservations len client : ℕ) (entry : Entry) (op : Operation) (inside : client < length e.all) (kept : IsKept k e heights reserved reservations len)
-    (gains : GainsKey k k') (fits : IsSound k'.keys e.all entry) (is : told k'.keys e.all entry ≡ op) (all : e'.all ≡ with_item e.all client entry) (more : GainsEntry entry e e') where
-  pub put_told : told_by k'.keys e'.all ≡ with_op (told_by k.keys e.all) client op
-  put_told = ap (told_by k'.keys) all ∙ told_by-with_item k.keys k'.keys gains.places e.all client entry inside kept.sound fits op is
+module _ (k k' : KeptKeys) (e e' : KeptEntries) (maxima : Maxima) (reserved : List Bool) (reservations len client : ℕ) (entry : StoredOp) (op : Operation) (inside : client < length e.all) (kept : IsKept k e maxima reserved reservations len)
+    (gains : GainsKey k k') (fits : IsSound k'.keys e.all entry) (is : reported k'.keys e.all entry ≡ op) (all : e'.all ≡ with_item e.all client entry) (more : GainsEntry entry e e') where
+  pub put_reported : reported_by k'.keys e'.all ≡ with_op (reported_by k.keys e.all) client op
+  put_reported = ap (reported_by k'.keys) all ∙ reported_by-with_item k.keys k'.keys gains.places e.all client entry inside kept.sound fits op is
 
   -- the keys of the gets stored with what they returned
-  gets_keyed : (number : ℕ) (x : Entry) → slice_get e'.gets number ≡ Some x → key_number_of x < length k'.keys
+  gets_keyed : (number : ℕ) (x : StoredOp) → slice_get e'.gets number ≡ Some x → key_number_of x < length k'.keys
   gets_keyed number x at = elim more.gets [
-    | inl same ↦ omega (arith, kept.get_keys number x (sym (ap (λ (s : List Entry). slice_get s number) same) ∙ at), gains.places.longer)
-    | inr grown ↦ elim (slice_get-end e.gets entry number x (sym (ap (λ (s : List Entry). slice_get s number) grown) ∙ at)) [
+    | inl same ↦ omega (arith, kept.get_keys number x (sym (ap (λ (s : List StoredOp). slice_get s number) same) ∙ at), gains.places.longer)
+    | inr grown ↦ elim (slice_get-end e.gets entry number x (sym (ap (λ (s : List StoredOp). slice_get s number) grown) ∙ at)) [
       | inl was ↦ omega (arith, kept.get_keys number x was, gains.places.longer)
-      | inr new ↦ subst (λ (y : Entry). key_number_of y < length k'.keys) new.1 fits.key
+      | inr new ↦ subst (λ (y : StoredOp). key_number_of y < length k'.keys) new.1 fits.key
     ]
   ]
 
@@ -156,17 +156,17 @@ module _ (k k' : KeptKeys) (e e' : KeptEntries) (heights : Heights) (reserved : 
     | inr grown ↦ omega (arith, ap length grown, length-append e.gets (entry ∷ []))
   ]
 
-  pub put_kept : (heights' : Heights) → (AreSessionHeights (told_by k.keys e.all) heights → AreSessionHeights (with_op (told_by k.keys e.all) client op) heights') → get_or reserved client false ≡ true → ((c : ℕ) → c ≢ client → get_or e.room c false ≡ true → get_or e'.room c false ≡ true)
-      → length (get_or (told_by k.keys e.all) client []) < 1000000 → count_of (told_by k.keys e.all) < 16000000
-      → IsKept k' e' heights' (set reserved client false) (reservations - 1) (len + 1)
-  put_kept heights' takes flag room session most =
-      let h = told_by k.keys e.all in
-      let there : client < length h = omega (arith, length-map e.all (map (told k.keys e.all))) in
+  pub put_kept : (maxima' : Maxima) → (AreSessionMaxima (reported_by k.keys e.all) maxima → AreSessionMaxima (with_op (reported_by k.keys e.all) client op) maxima') → get_or reserved client false ≡ true → ((c : ℕ) → c ≢ client → get_or e.room c false ≡ true → get_or e'.room c false ≡ true)
+      → length (get_or (reported_by k.keys e.all) client []) < 1000000 → count_of (reported_by k.keys e.all) < 16000000
+      → IsKept k' e' maxima' (set reserved client false) (reservations - 1) (len + 1)
+  put_kept maxima' takes flag room session most =
+      let h = reported_by k.keys e.all in
+      let there : client < length h = omega (arith, length-map e.all (map (reported k.keys e.all))) in
       let flags : client < length reserved = omega (arith, kept.flags) in
       record {
-        limits = subst IsWithinLimits (sym put_told) (within_with_op h client op (there, session, most) kept.limits);
-        count = omega (arith, kept.count, ap count_of put_told, count-with_op h client op there);
-        counted = omega (arith, more.names, kept.counted, puts-with_op h client op there, ap put_count put_told, puts-told k'.keys e.all entry, ap (λ (o : Operation). flag_count (is_put o)) is);
+        limits = subst IsWithinLimits (sym put_reported) (within_with_op h client op (there, session, most) kept.limits);
+        count = omega (arith, kept.count, ap count_of put_reported, count-with_op h client op there);
+        counted = omega (arith, more.names, kept.counted, puts-with_op h client op there, ap put_count put_reported, puts-reported k'.keys e.all entry, ap (λ (o : Operation). flag_count (is_put o)) is);
         sound = subst (AreSound k'.keys) (sym all) (sound-with_item k.keys k'.keys gains.places e.all client entry inside kept.sound fits);
         distinct = gains.distinct;
         few = omega (arith, gains.few, kept.few);
@@ -180,8 +180,8 @@ module _ (k k' : KeptKeys) (e e' : KeptEntries) (heights : Heights) (reserved : 
         places = omega (arith, kept.held, kept.places, gains.spare, clear_flag reserved client flags flag);
         put_places = omega (arith, kept.held, kept.put_places, more.more_puts, clear_flag reserved client flags flag);
         get_places = omega (arith, kept.held, kept.get_places, more.more_gets, clear_flag reserved client flags flag);
-        few_names = omega (arith, kept.few_names, more.names, puts-told k'.keys e.all entry, flag-le (is_put (told k'.keys e.all entry)));
+        few_names = omega (arith, kept.few_names, more.names, puts-reported k'.keys e.all entry, flag-le (is_put (reported k'.keys e.all entry)));
         few_gets = omega (arith, kept.few_gets, gets_more);
         get_keys = gets_keyed;
-        session_heights = subst (λ (h : Sessions). AreSessionHeights h heights') (sym put_told) (takes kept.session_heights);
+        session_maxima = subst (λ (h : Sessions). AreSessionMaxima h maxima') (sym put_reported) (takes kept.session_maxima);
       }

@@ -1,7 +1,7 @@
 pub mod DepLemmas
 pub mod Sessions
 pub mod Keys
-pub mod Telling
+pub mod Reporting
 pub mod Sources
 pub mod Showing
 pub mod Sessioning

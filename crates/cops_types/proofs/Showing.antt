@@ -5,16 +5,16 @@ use Rattle.std.specs.Option.{option_and_then, option_map}
 use Rattle.std.proofs.Math.ListN.{set, get_or-map}
 use Rattle.std.proofs.lemmas.List.{map-set, map-append, length-map, get_or-map as get_or-map-inside}
 use Rattle.std.proofs.lemmas.Option.{slice_get-map, get_or_from_slice_get, slice_get_within}
-use Rattle.cops_types.specs.declared.entry.Entry.{Entry}
-use Rattle.cops_types.specs.declared.entry.Entry.TheVariants.{Put, Got, Sourced}
-use Rattle.cops_types.specs.declared.entry.EntryRef.{EntryRef}
-use Rattle.cops_types.specs.declared.entry.EntryRef.TheVariants.{Put as PutRef, Got as GotRef, Sourced as SourcedRef, Missed as MissedRef}
+use Rattle.cops_types.specs.declared.entry.StoredOp.{StoredOp}
+use Rattle.cops_types.specs.declared.entry.StoredOp.TheVariants.{Put, Got, Sourced}
+use Rattle.cops_types.specs.declared.entry.StoredOpRef.{StoredOpRef}
+use Rattle.cops_types.specs.declared.entry.StoredOpRef.TheVariants.{Put as PutRef, Got as GotRef, Sourced as SourcedRef, Missed as MissedRef}
 use Rattle.cops_types.specs.declared.entry.NumberedPut.{NumberedPut}
 use Rattle.cops_types.specs.declared.op.OpName.{OpName}
 use Rattle.cops_types.specs.declared.slot.KeptGot.{KeptGot}
 use Rattle.cops_types.specs.declared.slot.KeptPut.{KeptPut}
-use Rattle.cops_types.specs.declared.slot.Slot.{Slot}
-use Rattle.cops_types.specs.declared.slot.Slot.TheVariants.{Put as PutSlot, Got as GotSlot, Sourced as SourcedSlot, Missed as MissedSlot}
+use Rattle.cops_types.specs.declared.slot.OpSlot.{OpSlot}
+use Rattle.cops_types.specs.declared.slot.OpSlot.TheVariants.{Put as PutSlot, Got as GotSlot, Sourced as SourcedSlot, Missed as MissedSlot}
 use Rattle.cops_types.specs.declared.versioned_put.VersionedPut.{VersionedPut}
 use Rattle.cops_types.specs.Entries.{EntryLists, HasValue, ListsEntries, value_in, value_put}
 use Rattle.cops_types.specs.Lists.{item_at, number_at, with_item}
@@ -22,7 +22,7 @@ use Rattle.cops_types.specs.Recorded.{AreNumbered}
 use Rattle.cops_types.specs.Slots.{AreKept, IsFrom, IsThere, get_number_in, get_numbers_in, put_shown, source_shown, got_shown, shown, shown_by, versioned, content_of}
 use Rattle.cops_types.specs.Blocks.{KeptBlocks}
 use Rattle.cops_types.proofs.Sessions.{at_or_other, more_items, none_of}
-use Rattle.cops_types.proofs.Telling.{item_came, item_stays, map-same}
+use Rattle.cops_types.proofs.Reporting.{item_came, item_stays, map-same}
 
 -- ---- lists
 
@@ -50,14 +50,14 @@ stays_left (y ∷ xs) ys zero x at = at
 stays_left (y ∷ xs) ys (suc i) x at = stays_left xs ys i x at
 
 -- the first list is a prefix of the second
-abbrev pub IsFront : {X : Type 0} → List X → List X → Type 0
-IsFront {X} xs ys = (i : ℕ) (x : X) → slice_get xs i ≡ Some x → slice_get ys i ≡ Some x
+abbrev pub IsPrefix : {X : Type 0} → List X → List X → Type 0
+IsPrefix {X} xs ys = (i : ℕ) (x : X) → slice_get xs i ≡ Some x → slice_get ys i ≡ Some x
 
-pub front_same : {X : Type 0} (xs : List X) → IsFront xs xs
-front_same xs = λ i x at. at
+pub prefix_same : {X : Type 0} (xs : List X) → IsPrefix xs xs
+prefix_same xs = λ i x at. at
 
-pub front_more : {X : Type 0} (xs : List X) (y : X) → IsFront xs (xs ++ y ∷ [])
-front_more xs y = stays_left xs (y ∷ [])
+pub prefix_more : {X : Type 0} (xs : List X) (y : X) → IsPrefix xs (xs ++ y ∷ [])
+prefix_more xs y = stays_left xs (y ∷ [])
 
 -- the item that is added to a client's list
 pub item_last : {X : Type 0} (lists : List (List X)) (client : ℕ) (item : X) (name : OpName) → client < length lists → name.client ≡ client → name.index ≡ length (get_or lists client [])
@@ -89,11 +89,11 @@ no_items : (puts : List KeptPut) (gets : List KeptGot) (n : ℕ) → shown_by pu
 no_items puts gets zero = refl
 no_items puts gets (suc n) = ap (λ (l : EntryLists). [] ∷ l) (no_items puts gets n)
 
-pub shown-none : (puts : List KeptPut) (gets : List KeptGot) (slots : List (List Slot)) (n : ℕ) → slots ≡ replicate n [] → shown_by puts gets slots ≡ replicate n []
+pub shown-none : (puts : List KeptPut) (gets : List KeptGot) (slots : List (List OpSlot)) (n : ℕ) → slots ≡ replicate n [] → shown_by puts gets slots ≡ replicate n []
 shown-none puts gets slots n none = ap (shown_by puts gets) none ∙ no_items puts gets n
 
 -- the invariant of empty lists
-pub none_kept : (slots : List (List Slot)) (n : ℕ) → slots ≡ replicate n [] → AreKept [] [] slots
+pub none_kept : (slots : List (List OpSlot)) (n : ℕ) → slots ≡ replicate n [] → AreKept [] [] slots
 none_kept slots n none = record {
   there = λ name s at. let gone : None ≡ Some s = nothing name s at in cc;
   named = λ m p at. let gone : None ≡ Some p = at in cc;
@@ -103,13 +103,13 @@ none_kept slots n none = record {
   rising = λ a b k m same before at also. let gone : None ≡ Some (GotSlot k) = nothing a (GotSlot k) at in cc;
 }
   where
-    nothing : (name : OpName) (s : Slot) → item_at slots name ≡ Some s → None ≡ Some s
-    nothing name s at = ap (λ (l : List Slot). slice_get l name.index) (sym (none_of n name.client)) ∙ ap (λ (l : List (List Slot)). item_at l name) (sym none) ∙ at
+    nothing : (name : OpName) (s : OpSlot) → item_at slots name ≡ Some s → None ≡ Some s
+    nothing name s at = ap (λ (l : List OpSlot). slice_get l name.index) (sym (none_of n name.client)) ∙ ap (λ (l : List (List OpSlot)). item_at l name) (sym none) ∙ at
 
-pub item_at-shown : (puts : List KeptPut) (gets : List KeptGot) (slots : List (List Slot)) (name : OpName) → item_at (shown_by puts gets slots) name ≡ option_map (shown puts gets) (item_at slots name)
+pub item_at-shown : (puts : List KeptPut) (gets : List KeptGot) (slots : List (List OpSlot)) (name : OpName) → item_at (shown_by puts gets slots) name ≡ option_map (shown puts gets) (item_at slots name)
 item_at-shown puts gets slots name = item_at-map (shown puts gets) slots name
 
-pub length-shown : (puts : List KeptPut) (gets : List KeptGot) (slots : List (List Slot)) (client : ℕ) → length (get_or (shown_by puts gets slots) client []) ≡ length (get_or slots client [])
+pub length-shown : (puts : List KeptPut) (gets : List KeptGot) (slots : List (List OpSlot)) (client : ℕ) → length (get_or (shown_by puts gets slots) client []) ≡ length (get_or slots client [])
 length-shown puts gets slots client = ap length (get_or-map (map (shown puts gets)) slots client []) ∙ length-map (get_or slots client []) (shown puts gets)
 
 -- an index within a list has an item
@@ -118,28 +118,28 @@ found [] i inside = absurd (omega (arith, inside))
 found (x ∷ xs) zero inside = (x, refl)
 found (x ∷ xs) (suc i) inside = found xs i (omega (arith, inside))
 
-module _ (puts puts' : List KeptPut) (gets gets' : List KeptGot) (more_puts : IsFront puts puts') (more_gets : IsFront gets gets') where
+module _ (puts puts' : List KeptPut) (gets gets' : List KeptGot) (more_puts : IsPrefix puts puts') (more_gets : IsPrefix gets gets') where
   -- a slot still stands for the same entry
-  shown-same : (s : Slot) → IsThere (length puts) (length gets) s → shown puts' gets' s ≡ shown puts gets s
+  shown-same : (s : OpSlot) → IsThere (length puts) (length gets) s → shown puts' gets' s ≡ shown puts gets s
   shown-same (PutSlot n) there = let p = found puts n there in ap put_shown (more_puts n p.0 p.1 ∙ sym p.1)
   shown-same (SourcedSlot n) there = let p = found puts n there in ap (source_shown n) (more_puts n p.0 p.1 ∙ sym p.1)
   shown-same (GotSlot n) there = let g = found gets n there in ap got_shown (more_gets n g.0 g.1 ∙ sym g.1)
   shown-same (MissedSlot key) there = refl
 
-  module _ (slots : List (List Slot)) (kept : AreKept puts gets slots) (client : ℕ) (slot : Slot) (inside : client < length slots) where
+  module _ (slots : List (List OpSlot)) (kept : AreKept puts gets slots) (client : ℕ) (slot : OpSlot) (inside : client < length slots) where
     shown_by-same : shown_by puts' gets' slots ≡ shown_by puts gets slots
     shown_by-same =
         map-same (map (shown puts' gets')) (map (shown puts gets)) slots (λ c s at.
         map-same (shown puts' gets') (shown puts gets) s (λ i x here.
-        shown-same x (kept.there (record { client = c; index = i }) x (ap (λ (l : List Slot). slice_get l i) (get_or_from_slice_get slots c s [] at) ∙ here))))
+        shown-same x (kept.there (record { client = c; index = i }) x (ap (λ (l : List OpSlot). slice_get l i) (get_or_from_slice_get slots c s [] at) ∙ here))))
 
     -- the client gains the entry of the slot
-    pub shown_by-more : (entry : Entry) → shown puts' gets' slot ≡ entry → shown_by puts' gets' (with_item slots client slot) ≡ with_item (shown_by puts gets slots) client entry
+    pub shown_by-more : (entry : StoredOp) → shown puts' gets' slot ≡ entry → shown_by puts' gets' (with_item slots client slot) ≡ with_item (shown_by puts gets slots) client entry
     shown_by-more entry is =
         let f = shown puts' gets' in
         let s = get_or slots client [] in
         map-set (map f) slots client (s ++ slot ∷ [])
-        ∙ ap (set (map (map f) slots) client) (map-append f s (slot ∷ []) ∙ ap (λ (l : List Entry). l ++ f slot ∷ []) (sym (get_or-map (map f) slots client [])))
+        ∙ ap (set (map (map f) slots) client) (map-append f s (slot ∷ []) ∙ ap (λ (l : List StoredOp). l ++ f slot ∷ []) (sym (get_or-map (map f) slots client [])))
         ∙ ap (λ (all : EntryLists). with_item all client (f slot)) shown_by-same
         ∙ ap (with_item (shown_by puts gets slots) client) is
 
@@ -166,7 +166,7 @@ module _ (puts puts' : List KeptPut) (gets gets' : List KeptGot) (more_puts : Is
         | inl was ↦ let name = kept.each n was in (name.0, item_stays slots client slot inside name.0 (GotSlot n) name.1)
         | inr is ↦
             let name : OpName = record { client = client; index = length (get_or slots client []) } in
-            (name, item_last slots client slot name inside refl refl ∙ ap (λ (s : Slot). Some s) is)
+            (name, item_last slots client slot name inside refl refl ∙ ap (λ (s : OpSlot). Some s) is)
       ];
       once = λ a b n at also. elim (came a n at) [
         | inl p ↦ elim (came b n also) [
@@ -197,13 +197,13 @@ module _ (puts puts' : List KeptPut) (gets gets' : List KeptGot) (more_puts : Is
             → (item_at slots name ≡ Some (GotSlot n)) ⊎ ((slot ≡ GotSlot n) × (name.client ≡ client) × (name.index ≡ length (get_or slots client [])))
         came name n at = item_came_last slots client slot inside name (GotSlot n) at
 
-        still : (s : Slot) → IsThere (length puts) (length gets) s → IsThere (length puts') (length gets') s
+        still : (s : OpSlot) → IsThere (length puts) (length gets) s → IsThere (length puts') (length gets') s
         still (PutSlot n) there = omega (arith, there, longer_puts)
         still (SourcedSlot n) there = omega (arith, there, longer_puts)
         still (GotSlot n) there = omega (arith, there, longer_gets)
         still (MissedSlot key) there = tt
 
-module _ (puts : List KeptPut) (gets : List KeptGot) (slots : List (List Slot)) (kept : AreKept puts gets slots) where
+module _ (puts : List KeptPut) (gets : List KeptGot) (slots : List (List OpSlot)) (kept : AreKept puts gets slots) where
   -- a put is the entry of its name
   pub put_at : (n : ℕ) (p : KeptPut) → slice_get puts n ≡ Some p → item_at (shown_by puts gets slots) p.name ≡ Some (Put p.key (content_of p.has_value p.value) p.version)
   put_at n p at = item_at-shown puts gets slots p.name ∙ ap (option_map (shown puts gets)) (kept.named n p at) ∙ ap (λ (o : Option KeptPut). Some (put_shown o)) at
@@ -243,7 +243,7 @@ module _ (puts : List KeptPut) (gets : List KeptGot) (slots : List (List Slot)) 
       )
 
   -- a reference has its put's value
-  pub has_value : (e : EntryRef) → IsFrom puts e → HasValue (shown_by puts gets slots) e
+  pub has_value : (e : StoredOpRef) → IsFrom puts e → HasValue (shown_by puts gets slots) e
   has_value (PutRef key value version) from = tt
   has_value (GotRef key value version) from = tt
   has_value (SourcedRef key put value version) from =
@@ -284,7 +284,7 @@ no_got_put None key value version is = cc
 
 module _ (puts : List KeptPut) (gets : List KeptGot) where
   -- a slot that stands for a put is a put's slot
-  slot_of_put : (o : Option Slot) (key : ℕ) (value : Option (List ℕ)) (version : ℕ) → option_map (shown puts gets) o ≡ Some (Put key value version) → (n : ℕ) × (o ≡ Some (PutSlot n))
+  slot_of_put : (o : Option OpSlot) (key : ℕ) (value : Option (List ℕ)) (version : ℕ) → option_map (shown puts gets) o ≡ Some (Put key value version) → (n : ℕ) × (o ≡ Some (PutSlot n))
   slot_of_put None key value version is = cc
   slot_of_put (Some (PutSlot n)) key value version is = (n, refl)
   slot_of_put (Some (SourcedSlot n)) key value version is = let e : source_shown n (slice_get puts n) ≡ Put key value version = cc in absurd (no_sourced_put n (slice_get puts n) key value version e)
@@ -292,11 +292,11 @@ module _ (puts : List KeptPut) (gets : List KeptGot) where
   slot_of_put (Some (MissedSlot k)) key value version is = cc
 
   -- without a put's slot there is no put's entry
-  pub no_put_shown : (slots : List (List Slot)) (name : OpName) → ((n : ℕ) → item_at slots name ≡ Some (PutSlot n) → ⊥)
+  pub no_put_shown : (slots : List (List OpSlot)) (name : OpName) → ((n : ℕ) → item_at slots name ≡ Some (PutSlot n) → ⊥)
       → (key version : ℕ) (value : Option (List ℕ)) → item_at (shown_by puts gets slots) name ≡ Some (Put key value version) → ⊥
   no_put_shown slots name none key version value at = let slot = slot_of_put (item_at slots name) key value version (sym (item_at-shown puts gets slots name) ∙ at) in none slot.0 slot.1
 
-  module _ (slots : List (List Slot)) (kept : AreKept puts gets slots) where
+  module _ (slots : List (List OpSlot)) (kept : AreKept puts gets slots) where
     versioned_at : (n : ℕ) (p : KeptPut) (d : VersionedPut) → slice_get puts n ≡ Some p → get_or (map versioned puts) n d ≡ versioned p
     versioned_at n p d at = get_or_from_slice_get (map versioned puts) n (versioned p) d (slice_get-map versioned puts n ∙ ap (option_map versioned) at)
 
@@ -331,27 +331,27 @@ module _ (puts : List KeptPut) (gets : List KeptGot) where
           omega (arith, less, equal);
     }
 
-module _ (puts : List KeptPut) (gets : List KeptGot) (slots : List (List Slot)) (kept : AreKept puts gets slots) (name : OpName) where
+module _ (puts : List KeptPut) (gets : List KeptGot) (slots : List (List OpSlot)) (kept : AreKept puts gets slots) (name : OpName) where
   -- the number in a name's slot
-  module _ (number : Option ℕ) (tells : (n : ℕ) → (number ≡ Some n) ↔ (item_at slots name ≡ Some (PutSlot n))) where
+  module _ (number : Option ℕ) (reports : (n : ℕ) → (number ≡ Some n) ↔ (item_at slots name ≡ Some (PutSlot n))) where
     pub numbers_put : (n : ℕ) → (number ≡ Some n) ↔ (slice_get (map (λ (p : KeptPut). p.name) puts) n ≡ Some name)
-    numbers_put n = ((λ is. named_at puts gets slots kept name n ((tells n).0 is)), (λ at. (tells n).1 (put_named puts gets slots kept name n at)))
+    numbers_put n = ((λ is. named_at puts gets slots kept name n ((reports n).0 is)), (λ at. (reports n).1 (put_named puts gets slots kept name n at)))
 
     pub number_is_put : IfSome number (λ _. (key version : ℕ) × (value : Option (List ℕ)) × (item_at (shown_by puts gets slots) name ≡ Some (Put key value version)))
-    number_is_put = told number (λ n is. put_of puts gets slots kept name n ((tells n).0 is))
+    number_is_put = reported number (λ n is. put_of puts gets slots kept name n ((reports n).0 is))
       where
-        told : (o : Option ℕ) → ((n : ℕ) → o ≡ Some n → (key version : ℕ) × (value : Option (List ℕ)) × (item_at (shown_by puts gets slots) name ≡ Some (Put key value version)))
+        reported : (o : Option ℕ) → ((n : ℕ) → o ≡ Some n → (key version : ℕ) × (value : Option (List ℕ)) × (item_at (shown_by puts gets slots) name ≡ Some (Put key value version)))
             → IfSome o (λ _. (key version : ℕ) × (value : Option (List ℕ)) × (item_at (shown_by puts gets slots) name ≡ Some (Put key value version)))
-        told (Some n) so = so n refl
-        told None so = tt
+        reported (Some n) so = so n refl
+        reported None so = tt
 
     pub no_number_no_put : IfNone number ((key version : ℕ) (value : Option (List ℕ)) → item_at (shown_by puts gets slots) name ≢ Some (Put key value version))
-    no_number_no_put = told number (λ none. no_put_shown puts gets slots name (λ n at. let gone : None ≡ Some n = none ∙ (tells n).1 at in cc))
+    no_number_no_put = reported number (λ none. no_put_shown puts gets slots name (λ n at. let gone : None ≡ Some n = none ∙ (reports n).1 at in cc))
       where
-        told : (o : Option ℕ) → (None ≡ o → (key version : ℕ) (value : Option (List ℕ)) → item_at (shown_by puts gets slots) name ≢ Some (Put key value version))
+        reported : (o : Option ℕ) → (None ≡ o → (key version : ℕ) (value : Option (List ℕ)) → item_at (shown_by puts gets slots) name ≢ Some (Put key value version))
             → IfNone o ((key version : ℕ) (value : Option (List ℕ)) → item_at (shown_by puts gets slots) name ≢ Some (Put key value version))
-        told (Some n) so = tt
-        told None so = so refl
+        reported (Some n) so = tt
+        reported None so = so refl
 
   pub names_source : (number : Option ℕ) → IfSome number (λ n. item_at slots name ≡ Some (SourcedSlot n))
       → IfSome number (λ n. (put : OpName) × (slice_get (map (λ (p : KeptPut). p.name) puts) n ≡ Some put)
@@ -361,11 +361,11 @@ module _ (puts : List KeptPut) (gets : List KeptGot) (slots : List (List Slot)) 
 
 -- ---- gets stored with what they returned
 
-abbrev pub entries_of : List KeptGot → List Entry
+abbrev pub entries_of : List KeptGot → List StoredOp
 entries_of gets = map (λ (g : KeptGot). got_shown (Some g)) gets
 
 got_entry : (o : Option KeptGot) (key version : ℕ) (value : Option (List ℕ)) → got_shown o ≡ Got key value version → option_map (λ (g : KeptGot). got_shown (Some g)) o ≡ Some (Got key value version)
-got_entry (Some g) key version value is = ap (λ (e : Entry). Some e) is
+got_entry (Some g) key version value is = ap (λ (e : StoredOp). Some e) is
 got_entry None key version value is = cc
 
 no_put_got : (o : Option KeptPut) (key : ℕ) (value : Option (List ℕ)) (version : ℕ) → put_shown o ≡ Got key value version → ⊥
@@ -377,30 +377,30 @@ no_sourced_got number (Some p) key value version is = cc
 no_sourced_got number None key value version is = cc
 
 -- the slot of a number
-numbered_slot : (o : Option Slot) (n : ℕ) → option_and_then get_number_in o ≡ Some n → o ≡ Some (GotSlot n)
+numbered_slot : (o : Option OpSlot) (n : ℕ) → option_and_then get_number_in o ≡ Some n → o ≡ Some (GotSlot n)
 numbered_slot None n is = cc
 numbered_slot (Some (PutSlot k)) n is = cc
 numbered_slot (Some (SourcedSlot k)) n is = cc
 numbered_slot (Some (GotSlot k)) n is = cc
 numbered_slot (Some (MissedSlot k)) n is = cc
 
-told_number : (number : Option ℕ) (o : Option Slot) → ((n : ℕ) → (number ≡ Some n) ↔ (o ≡ Some (GotSlot n))) → number ≡ option_and_then get_number_in o
-told_number (Some n) o tells = sym (ap (option_and_then get_number_in) ((tells n).0 refl))
-told_number None None tells = refl
-told_number None (Some (PutSlot k)) tells = refl
-told_number None (Some (SourcedSlot k)) tells = refl
-told_number None (Some (GotSlot k)) tells = (tells k).1 refl
-told_number None (Some (MissedSlot k)) tells = refl
+reported_number : (number : Option ℕ) (o : Option OpSlot) → ((n : ℕ) → (number ≡ Some n) ↔ (o ≡ Some (GotSlot n))) → number ≡ option_and_then get_number_in o
+reported_number (Some n) o reports = sym (ap (option_and_then get_number_in) ((reports n).0 refl))
+reported_number None None reports = refl
+reported_number None (Some (PutSlot k)) reports = refl
+reported_number None (Some (SourcedSlot k)) reports = refl
+reported_number None (Some (GotSlot k)) reports = (reports k).1 refl
+reported_number None (Some (MissedSlot k)) reports = refl
 
 -- the number under a name is that of its slot
-flat_number : (o : Option Slot) → option_and_then (λ (n : Option ℕ). n) (option_map get_number_in o) ≡ option_and_then get_number_in o
+flat_number : (o : Option OpSlot) → option_and_then (λ (n : Option ℕ). n) (option_map get_number_in o) ≡ option_and_then get_number_in o
 flat_number None = refl
 flat_number (Some s) = refl
 
-number_of_slot : (slots : List (List Slot)) (name : OpName) → number_at (get_numbers_in slots) name ≡ option_and_then get_number_in (item_at slots name)
+number_of_slot : (slots : List (List OpSlot)) (name : OpName) → number_at (get_numbers_in slots) name ≡ option_and_then get_number_in (item_at slots name)
 number_of_slot slots name = ap (option_and_then (λ (n : Option ℕ). n)) (item_at-map get_number_in slots name) ∙ flat_number (item_at slots name)
 
-slot_there : (puts : List KeptPut) (gets : List KeptGot) (o : Option Slot) (entry : Entry) → option_map (shown puts gets) o ≡ Some entry → (s : Slot) × (o ≡ Some s)
+slot_there : (puts : List KeptPut) (gets : List KeptGot) (o : Option OpSlot) (entry : StoredOp) → option_map (shown puts gets) o ≡ Some entry → (s : OpSlot) × (o ≡ Some s)
 slot_there puts gets None entry is = cc
 slot_there puts gets (Some s) entry is = (s, refl)
 
@@ -413,7 +413,7 @@ under_or_at (suc n) (suc m) lt = elim (under_or_at n m (omega (arith, lt))) [ in
 
 module _ (puts : List KeptPut) (gets : List KeptGot) where
   -- a slot that stands for such a get is its slot
-  got_slot_of : (o : Option Slot) (key version : ℕ) (value : Option (List ℕ)) → option_map (shown puts gets) o ≡ Some (Got key value version) → (n : ℕ) × (o ≡ Some (GotSlot n))
+  got_slot_of : (o : Option OpSlot) (key version : ℕ) (value : Option (List ℕ)) → option_map (shown puts gets) o ≡ Some (Got key value version) → (n : ℕ) × (o ≡ Some (GotSlot n))
   got_slot_of None key version value is = cc
   got_slot_of (Some (PutSlot n)) key version value is = let e : put_shown (slice_get puts n) ≡ Got key value version = cc in absurd (no_put_got (slice_get puts n) key value version e)
   got_slot_of (Some (SourcedSlot n)) key version value is = let e : source_shown n (slice_get puts n) ≡ Got key value version = cc in absurd (no_sourced_got n (slice_get puts n) key value version e)
@@ -421,7 +421,7 @@ module _ (puts : List KeptPut) (gets : List KeptGot) where
   got_slot_of (Some (MissedSlot k)) key version value is = cc
 
   -- each such get has a number
-  pub kept_gets : (slots : List (List Slot)) (name : OpName) (key version : ℕ) (value : Option (List ℕ)) → item_at (shown_by puts gets slots) name ≡ Some (Got key value version)
+  pub kept_gets : (slots : List (List OpSlot)) (name : OpName) (key version : ℕ) (value : Option (List ℕ)) → item_at (shown_by puts gets slots) name ≡ Some (Got key value version)
       → (n : ℕ) × (slice_get (entries_of gets) n ≡ Some (Got key value version))
   kept_gets slots name key version value at =
       let shown_there = sym (item_at-shown puts gets slots name) ∙ at in
@@ -430,13 +430,13 @@ module _ (puts : List KeptPut) (gets : List KeptGot) where
       let e : got_shown (slice_get gets slot.0) ≡ Got key value version = cc in
       (slot.0, slice_get-map (λ (g : KeptGot). got_shown (Some g)) gets slot.0 ∙ got_entry (slice_get gets slot.0) key version value e)
 
-  module _ (slots : List (List Slot)) (kept : AreKept puts gets slots) (name : OpName) where
+  module _ (slots : List (List OpSlot)) (kept : AreKept puts gets slots) (name : OpName) where
     -- the number in a name's slot
     pub numbers_get : (number : Option ℕ) → ((n : ℕ) → (number ≡ Some n) ↔ (item_at slots name ≡ Some (GotSlot n)))
         → IfSome number (λ n. (key version : ℕ) × (value : Option (List ℕ)) × (item_at (shown_by puts gets slots) name ≡ Some (Got key value version))
         × (slice_get (entries_of gets) n ≡ Some (Got key value version)))
-    numbers_get (Some n) tells =
-        let at = (tells n).0 refl in
+    numbers_get (Some n) reports =
+        let at = (reports n).0 refl in
         let g = found gets n (kept.there name (GotSlot n) at) in (
           g.0.key,
           g.0.version,
@@ -444,23 +444,23 @@ module _ (puts : List KeptPut) (gets : List KeptGot) where
           item_at-shown puts gets slots name ∙ ap (option_map (shown puts gets)) at ∙ ap (λ (o : Option KeptGot). Some (got_shown o)) g.1,
           slice_get-map (λ (g : KeptGot). got_shown (Some g)) gets n ∙ ap (option_map (λ (g : KeptGot). got_shown (Some g))) g.1,
         )
-    numbers_get None tells = tt
+    numbers_get None reports = tt
 
     -- without a number there is no such get
     pub no_number_no_get : (number : Option ℕ) → ((n : ℕ) → (number ≡ Some n) ↔ (item_at slots name ≡ Some (GotSlot n)))
         → IfNone number ((key version : ℕ) (value : Option (List ℕ)) → item_at (shown_by puts gets slots) name ≢ Some (Got key value version))
-    no_number_no_get (Some n) tells = tt
-    no_number_no_get None tells = λ key version value at.
+    no_number_no_get (Some n) reports = tt
+    no_number_no_get None reports = λ key version value at.
         let slot = got_slot_of (item_at slots name) key version value (sym (item_at-shown puts gets slots name) ∙ at) in
-        let gone : None ≡ Some slot.0 = (tells slot.0).1 slot.1 in
+        let gone : None ≡ Some slot.0 = (reports slot.0).1 slot.1 in
         cc
 
     -- the slot has no other number
-    pub tells_number : (number : Option ℕ) → ((n : ℕ) → (number ≡ Some n) ↔ (item_at slots name ≡ Some (GotSlot n))) → number ≡ number_at (get_numbers_in slots) name
-    tells_number number tells = told_number number (item_at slots name) tells ∙ sym (number_of_slot slots name)
+    pub reports_number : (number : Option ℕ) → ((n : ℕ) → (number ≡ Some n) ↔ (item_at slots name ≡ Some (GotSlot n))) → number ≡ number_at (get_numbers_in slots) name
+    reports_number number reports = reported_number number (item_at slots name) reports ∙ sym (number_of_slot slots name)
 
   -- the numbers of these gets
-  module _ (slots : List (List Slot)) (kept : AreKept puts gets slots) where
+  module _ (slots : List (List OpSlot)) (kept : AreKept puts gets slots) where
     slot_of : (name : OpName) (n : ℕ) → number_at (get_numbers_in slots) name ≡ Some n → item_at slots name ≡ Some (GotSlot n)
     slot_of name n is = numbered_slot (item_at slots name) n (sym (number_of_slot slots name) ∙ is)
 
@@ -475,7 +475,7 @@ module _ (puts : List KeptPut) (gets : List KeptGot) where
         }
 
 -- each slot keeps its number when one more is added
-pub numbers_stay : (puts : List KeptPut) (gets : List KeptGot) (slots : List (List Slot)) (client : ℕ) (slot : Slot) → client < length slots → (name : OpName) (entry : Entry)
+pub numbers_stay : (puts : List KeptPut) (gets : List KeptGot) (slots : List (List OpSlot)) (client : ℕ) (slot : OpSlot) → client < length slots → (name : OpName) (entry : StoredOp)
     → item_at (shown_by puts gets slots) name ≡ Some entry → number_at (get_numbers_in (with_item slots client slot)) name ≡ number_at (get_numbers_in slots) name
 numbers_stay puts gets slots client slot inside name entry at =
     let own = slot_there puts gets (item_at slots name) entry (sym (item_at-shown puts gets slots name) ∙ at) in
@@ -483,19 +483,19 @@ numbers_stay puts gets slots client slot inside name entry at =
 
 -- ---- one more operation
 
-module _ (puts : List KeptPut) (gets : List KeptGot) (slots : List (List Slot)) (kept : AreKept puts gets slots) (client : ℕ) (inside : client < length slots) where
+module _ (puts : List KeptPut) (gets : List KeptGot) (slots : List (List OpSlot)) (kept : AreKept puts gets slots) (client : ℕ) (inside : client < length slots) where
   -- a put
   module _ (put : KeptPut) (of : put.name.client ≡ client) (at : put.name.index ≡ length (get_or slots client [])) where
-    abbrev slot_put : Slot
+    abbrev slot_put : OpSlot
     slot_put = PutSlot (length puts)
 
-    pub all_with_put : (entry : Entry) → put_shown (Some put) ≡ entry → shown_by (puts ++ put ∷ []) gets (with_item slots client slot_put) ≡ with_item (shown_by puts gets slots) client entry
+    pub all_with_put : (entry : StoredOp) → put_shown (Some put) ≡ entry → shown_by (puts ++ put ∷ []) gets (with_item slots client slot_put) ≡ with_item (shown_by puts gets slots) client entry
     all_with_put entry is =
-        shown_by-more puts (puts ++ put ∷ []) gets gets (front_more puts put) (front_same gets) slots kept client slot_put inside entry (ap put_shown (end_of puts put) ∙ is)
+        shown_by-more puts (puts ++ put ∷ []) gets gets (prefix_more puts put) (prefix_same gets) slots kept client slot_put inside entry (ap put_shown (end_of puts put) ∙ is)
 
     pub kept_with_put : AreKept (puts ++ put ∷ []) gets (with_item slots client slot_put)
     kept_with_put =
-        kept_more puts (puts ++ put ∷ []) gets gets (front_more puts put) (front_same gets) slots kept client slot_put inside
+        kept_more puts (puts ++ put ∷ []) gets gets (prefix_more puts put) (prefix_same gets) slots kept client slot_put inside
         (omega (arith, length-append puts (put ∷ []))) (omega arith) (omega (arith, length-append puts (put ∷ [])))
         (λ n p there. elim (slice_get-end puts put n p there) [
           | inl was ↦ inl was
@@ -511,33 +511,33 @@ module _ (puts : List KeptPut) (gets : List KeptGot) (slots : List (List Slot)) 
 
   -- a get stored with what it returned
   module _ (got : KeptGot) where
-    abbrev slot_got : Slot
+    abbrev slot_got : OpSlot
     slot_got = GotSlot (length gets)
 
-    pub all_with_got : (entry : Entry) → got_shown (Some got) ≡ entry → shown_by puts (gets ++ got ∷ []) (with_item slots client slot_got) ≡ with_item (shown_by puts gets slots) client entry
+    pub all_with_got : (entry : StoredOp) → got_shown (Some got) ≡ entry → shown_by puts (gets ++ got ∷ []) (with_item slots client slot_got) ≡ with_item (shown_by puts gets slots) client entry
     all_with_got entry is =
-        shown_by-more puts puts gets (gets ++ got ∷ []) (front_same puts) (front_more gets got) slots kept client slot_got inside entry (ap got_shown (end_of gets got) ∙ is)
+        shown_by-more puts puts gets (gets ++ got ∷ []) (prefix_same puts) (prefix_more gets got) slots kept client slot_got inside entry (ap got_shown (end_of gets got) ∙ is)
 
     pub kept_with_got : AreKept puts (gets ++ got ∷ []) (with_item slots client slot_got)
     kept_with_got =
-        kept_more puts puts gets (gets ++ got ∷ []) (front_same puts) (front_more gets got) slots kept client slot_got inside
+        kept_more puts puts gets (gets ++ got ∷ []) (prefix_same puts) (prefix_more gets got) slots kept client slot_got inside
         (omega arith) (omega (arith, length-append gets (got ∷ []))) (omega (arith, length-append gets (got ∷ []))) (λ n p there. inl there) (λ name n is own_client own_index. cc)
         (λ n within. elim (under_or_at n (length gets) (omega (arith, within, length-append gets (got ∷ [])))) [ inl p ↦ inl p | inr p ↦ inr (ap (λ (k : ℕ). GotSlot k) (sym p)) ])
         (λ n is. let e : length gets ≡ n = cc in omega (arith, e))
 
   -- another get
-  module _ (slot : Slot) (fits : IsThere (length puts) (length gets) slot) (no_put : (n : ℕ) → slot ≡ PutSlot n → ⊥) (no_got : (n : ℕ) → slot ≡ GotSlot n → ⊥) where
-    pub all_with_slot : (entry : Entry) → shown puts gets slot ≡ entry → shown_by puts gets (with_item slots client slot) ≡ with_item (shown_by puts gets slots) client entry
-    all_with_slot entry is = shown_by-more puts puts gets gets (front_same puts) (front_same gets) slots kept client slot inside entry is
+  module _ (slot : OpSlot) (fits : IsThere (length puts) (length gets) slot) (no_put : (n : ℕ) → slot ≡ PutSlot n → ⊥) (no_got : (n : ℕ) → slot ≡ GotSlot n → ⊥) where
+    pub all_with_slot : (entry : StoredOp) → shown puts gets slot ≡ entry → shown_by puts gets (with_item slots client slot) ≡ with_item (shown_by puts gets slots) client entry
+    all_with_slot entry is = shown_by-more puts puts gets gets (prefix_same puts) (prefix_same gets) slots kept client slot inside entry is
 
     pub kept_with_slot : AreKept puts gets (with_item slots client slot)
-    kept_with_slot = kept_more puts puts gets gets (front_same puts) (front_same gets) slots kept client slot inside (omega arith) (omega arith) fits (λ n p there. inl there) (λ name n is own_client own_index. absurd (no_put n is))
+    kept_with_slot = kept_more puts puts gets gets (prefix_same puts) (prefix_same gets) slots kept client slot inside (omega arith) (omega arith) fits (λ n p there. inl there) (λ name n is own_client own_index. absurd (no_put n is))
         (λ n within. inl within) (λ n is. absurd (no_got n is))
 
 -- ---- sessions as they are stored
 
 module _ (puts : List KeptPut) (gets : List KeptGot) (sessions : List KeptBlocks) (client : ℕ) where
-  abbrev slots_of : List (List Slot)
+  abbrev slots_of : List (List OpSlot)
   slots_of = map (λ (b : KeptBlocks). b.items) sessions
 
   -- a client that is there
@@ -548,7 +548,7 @@ module _ (puts : List KeptPut) (gets : List KeptGot) (sessions : List KeptBlocks
   is_there inside = omega (arith, has_slots inside, length-map sessions (λ (b : KeptBlocks). b.items))
 
 -- the sessions with one more slot
-module _ (sessions : List KeptBlocks) (client : ℕ) (session new : KeptBlocks) (slot : Slot) (inside : client < length sessions) (at : session ≡ get_or sessions client session) where
+module _ (sessions : List KeptBlocks) (client : ℕ) (session new : KeptBlocks) (slot : OpSlot) (inside : client < length sessions) (at : session ≡ get_or sessions client session) where
   pub own_len : length (get_or (map (λ (b : KeptBlocks). b.items) sessions) client []) ≡ length session.items
   own_len = ap length (get_or-map-inside (λ (b : KeptBlocks). b.items) sessions client session [] inside ∙ ap (λ (b : KeptBlocks). b.items) (sym at))
 

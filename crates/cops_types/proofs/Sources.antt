@@ -4,68 +4,68 @@ use Rattle.std.specs.Prelude.{◌⊎◌, ◌≢◌, IfSome, IfNone, option_copie
 use Rattle.std.specs.Option.{option_map}
 use Rattle.std.proofs.lemmas.Option.{slice_get-get_or, slice_get-map}
 use Rattle.cops_types.specs.declared.op.OpName.{OpName}
-use Rattle.cops_types.specs.declared.entry.Entry.{Entry}
-use Rattle.cops_types.specs.declared.entry.EntryRef.{EntryRef}
-use Rattle.cops_types.specs.declared.entry.EntryRef.TheVariants.{Put as PutRef, Got as GotRef, Sourced as SourcedRef, Missed as MissedRef}
+use Rattle.cops_types.specs.declared.entry.StoredOp.{StoredOp}
+use Rattle.cops_types.specs.declared.entry.StoredOpRef.{StoredOpRef}
+use Rattle.cops_types.specs.declared.entry.StoredOpRef.TheVariants.{Put as PutRef, Got as GotRef, Sourced as SourcedRef, Missed as MissedRef}
 use Rattle.cops_types.specs.declared.entry.NumberedPut.{NumberedPut}
 use Rattle.cops_types.specs.declared.value.Value.{Value}
 use Rattle.cops_types.specs.declared.version.Version.{Version}
-use Rattle.cops_types.specs.declared.entry.Entry.TheVariants.{Put, Got, Sourced, Missed}
+use Rattle.cops_types.specs.declared.entry.StoredOp.TheVariants.{Put, Got, Sourced, Missed}
 use Rattle.cops_types.specs.Lists.{item_at, number_at}
 use Rattle.cops_types.specs.Histories.{IsNamed, Puts, PutsVersion, SourceStep, op_at, Operation, write, read, missed}
 use Rattle.cops_types.specs.Operations.{GetsVersion, key_of}
-use Rattle.cops_types.specs.Entries.{EntryLists, AreSound, IsSound, ListsEntries, referred, value_in, value_put, told, told_by, key_number_of}
+use Rattle.cops_types.specs.Entries.{EntryLists, AreSound, IsSound, ListsEntries, referred, value_in, value_put, reported, reported_by, key_number_of}
 use Rattle.cops_types.specs.declared.versioned_put.VersionedPut.{VersionedPut}
 use Rattle.cops_types.specs.KeySets.{AreDistinct}
 use Rattle.cops_types.specs.PutLists.{AreAllPuts}
-use Rattle.cops_types.proofs.Telling.{op_at-told}
+use Rattle.cops_types.proofs.Reporting.{op_at-reported}
 
-key_told : (keys : List (List ℕ)) (all : EntryLists) (e : Entry) → key_of (told keys all e) ≡ get_or keys (key_number_of e) []
-key_told keys all (Put key value version) = refl
-key_told keys all (Got key value version) = refl
-key_told keys all (Sourced key put version) = refl
-key_told keys all (Missed key) = refl
+key_reported : (keys : List (List ℕ)) (all : EntryLists) (e : StoredOp) → key_of (reported keys all e) ≡ get_or keys (key_number_of e) []
+key_reported keys all (Put key value version) = refl
+key_reported keys all (Got key value version) = refl
+key_reported keys all (Sourced key put version) = refl
+key_reported keys all (Missed key) = refl
 
 module _ (keys : List (List ℕ)) (all : EntryLists) (name : OpName) where
   -- without an entry there is no operation
-  pub none_told : None ≡ item_at all name → None ≡ op_at (told_by keys all) name
-  none_told none = ap (option_map (told keys all)) none ∙ sym (op_at-told keys all name)
+  pub none_reported : None ≡ item_at all name → None ≡ op_at (reported_by keys all) name
+  none_reported none = ap (option_map (reported keys all)) none ∙ sym (op_at-reported keys all name)
 
   -- with an entry, the operation is the one that it stands for
-  pub told_as : (e : Entry) (op : Operation) → Some e ≡ item_at all name → told keys all e ≡ op → Some op ≡ op_at (told_by keys all) name
-  told_as e op at is = ap Some (sym is) ∙ ap (option_map (told keys all)) at ∙ sym (op_at-told keys all name)
+  pub reported_as : (e : StoredOp) (op : Operation) → Some e ≡ item_at all name → reported keys all e ≡ op → Some op ≡ op_at (reported_by keys all) name
+  reported_as e op at is = ap Some (sym is) ∙ ap (option_map (reported keys all)) at ∙ sym (op_at-reported keys all name)
 
   -- the operation's key has the entry's number
-  pub key_numbered : (e : Entry) (number : ℕ) → AreSound keys all → Some e ≡ item_at all name → number ≡ key_number_of e → slice_get keys number ≡ option_map key_of (op_at (told_by keys all) name)
+  pub key_numbered : (e : StoredOp) (number : ℕ) → AreSound keys all → Some e ≡ item_at all name → number ≡ key_number_of e → slice_get keys number ≡ option_map key_of (op_at (reported_by keys all) name)
   key_numbered e number sound at is =
-      ap (slice_get keys) is ∙ slice_get-get_or keys (key_number_of e) [] (sound name e (sym at)).key ∙ ap Some (sym (key_told keys all e))
-      ∙ ap (option_map key_of) (told_as e (told keys all e) at refl)
+      ap (slice_get keys) is ∙ slice_get-get_or keys (key_number_of e) [] (sound name e (sym at)).key ∙ ap Some (sym (key_reported keys all e))
+      ∙ ap (option_map key_of) (reported_as e (reported keys all e) at refl)
 
   -- an entry that is no put stands for no put
-  pub no_put : (e : Entry) → Some e ≡ item_at all name → ((key : ℕ) (value : Option (List ℕ)) (version : ℕ) → e ≡ Put key value version → ⊥) → (version : ℕ) → ¬ PutsVersion (told_by keys all) name version
+  pub no_put : (e : StoredOp) → Some e ≡ item_at all name → ((key : ℕ) (value : Option (List ℕ)) (version : ℕ) → e ≡ Put key value version → ⊥) → (version : ℕ) → ¬ PutsVersion (reported_by keys all) name version
   no_put (Put key value own) at not version puts = not key value own refl
-  no_put (Got key value own) at not version puts = let both = told_as (Got key value own) _ at refl ∙ puts.2 in cc
-  no_put (Sourced key put own) at not version puts = let both = told_as (Sourced key put own) _ at refl ∙ puts.2 in cc
-  no_put (Missed key) at not version puts = let both = told_as (Missed key) _ at refl ∙ puts.2 in cc
+  no_put (Got key value own) at not version puts = let both = reported_as (Got key value own) _ at refl ∙ puts.2 in cc
+  no_put (Sourced key put own) at not version puts = let both = reported_as (Sourced key put own) _ at refl ∙ puts.2 in cc
+  no_put (Missed key) at not version puts = let both = reported_as (Missed key) _ at refl ∙ puts.2 in cc
 
   -- an entry that is no get which returned something stands for no such get
-  pub no_got : (e : Entry) → Some e ≡ item_at all name → ((key : ℕ) (value : Option (List ℕ)) (version : ℕ) → e ≡ Got key value version → ⊥) → ((key : ℕ) (put : NumberedPut) (version : ℕ) → e ≡ Sourced key put version → ⊥)
-      → (version : ℕ) → ¬ GetsVersion (told_by keys all) name version
-  no_got (Put key value own) at not nor version gets = let both = told_as (Put key value own) _ at refl ∙ gets.2 in cc
+  pub no_got : (e : StoredOp) → Some e ≡ item_at all name → ((key : ℕ) (value : Option (List ℕ)) (version : ℕ) → e ≡ Got key value version → ⊥) → ((key : ℕ) (put : NumberedPut) (version : ℕ) → e ≡ Sourced key put version → ⊥)
+      → (version : ℕ) → ¬ GetsVersion (reported_by keys all) name version
+  no_got (Put key value own) at not nor version gets = let both = reported_as (Put key value own) _ at refl ∙ gets.2 in cc
   no_got (Got key value own) at not nor version gets = not key value own refl
   no_got (Sourced key put own) at not nor version gets = nor key put own refl
-  no_got (Missed key) at not nor version gets = let both = told_as (Missed key) _ at refl ∙ gets.2 in cc
+  no_got (Missed key) at not nor version gets = let both = reported_as (Missed key) _ at refl ∙ gets.2 in cc
 
   -- like the lemma above, for a reference
-  pub no_put_there : (e : EntryRef) → Some (referred e) ≡ item_at all name → ((key : ℕ) (value : Option (Bor Value)) (version : Bor Version) → e ≡ PutRef key value version → ⊥)
-      → (version : ℕ) → ¬ PutsVersion (told_by keys all) name version
+  pub no_put_there : (e : StoredOpRef) → Some (referred e) ≡ item_at all name → ((key : ℕ) (value : Option (Bor Value)) (version : Bor Version) → e ≡ PutRef key value version → ⊥)
+      → (version : ℕ) → ¬ PutsVersion (reported_by keys all) name version
   no_put_there (PutRef key value own) at not = absurd (not key value own refl)
   no_put_there (GotRef key value own) at not = no_put (Got key (option_copied value) own.now) at (λ k v w e. cc)
   no_put_there (SourcedRef key put value own) at not = no_put (Sourced key put own.now) at (λ k v w e. cc)
   no_put_there (MissedRef key) at not = no_put (Missed key) at (λ k v w e. cc)
 
-  pub no_got_there : (e : EntryRef) → Some (referred e) ≡ item_at all name → ((key : ℕ) (value : Option (Bor Value)) (version : Bor Version) → e ≡ GotRef key value version → ⊥)
-      → ((key : ℕ) (put : NumberedPut) (value : Option (Bor Value)) (version : Bor Version) → e ≡ SourcedRef key put value version → ⊥) → (version : ℕ) → ¬ GetsVersion (told_by keys all) name version
+  pub no_got_there : (e : StoredOpRef) → Some (referred e) ≡ item_at all name → ((key : ℕ) (value : Option (Bor Value)) (version : Bor Version) → e ≡ GotRef key value version → ⊥)
+      → ((key : ℕ) (put : NumberedPut) (value : Option (Bor Value)) (version : Bor Version) → e ≡ SourcedRef key put value version → ⊥) → (version : ℕ) → ¬ GetsVersion (reported_by keys all) name version
   no_got_there (PutRef key value own) at not nor = no_got (Put key (option_copied value) own.now) at (λ k v w e. cc) (λ k p w e. cc)
   no_got_there (GotRef key value own) at not nor = absurd (not key value own refl)
   no_got_there (SourcedRef key put value own) at not nor = absurd (nor key put value own refl)
@@ -73,8 +73,8 @@ module _ (keys : List (List ℕ)) (all : EntryLists) (name : OpName) where
 
 -- an entry that names its source stands for a get of what that put wrote
 module _ (keys : List (List ℕ)) (all : EntryLists) (put : NumberedPut) (number : ℕ) (value : Option (List ℕ)) (version : ℕ) (at : item_at all put.name ≡ Some (Put number value version)) where
-  pub named_told : (key : List ℕ) → get_or keys number [] ≡ key → told keys all (Sourced number put version) ≡ read key value version
-  named_told key is = λ j. read (is j) (ap value_in at j) version
+  pub named_reported : (key : List ℕ) → get_or keys number [] ≡ key → reported keys all (Sourced number put version) ≡ read key value version
+  named_reported key is = λ j. read (is j) (ap value_in at j) version
 
   pub named_sound : AreSound keys all → IsSound keys all (Sourced number put version)
   named_sound sound = record {
@@ -84,7 +84,7 @@ module _ (keys : List (List ℕ)) (all : EntryLists) (put : NumberedPut) (number
 
 -- an entry that stands for a put of the key of that number
 put_entry : (keys : List (List ℕ)) (all : EntryLists) (key : ℕ) (value : Option (List ℕ)) (version : ℕ) → AreDistinct keys → key < length keys
-    → (found : Option Entry) → ((e : Entry) → found ≡ Some e → key_number_of e < length keys) → option_map (told keys all) found ≡ Some (write (get_or keys key []) value version) → found ≡ Some (Put key value version)
+    → (found : Option StoredOp) → ((e : StoredOp) → found ≡ Some e → key_number_of e < length keys) → option_map (reported keys all) found ≡ Some (write (get_or keys key []) value version) → found ≡ Some (Put key value version)
 put_entry keys all key value version distinct inside None numbered is = cc
 put_entry keys all key value version distinct inside (Some (Put k v w)) numbered is =
     let same : get_or keys k [] ≡ get_or keys key [] = cc in
@@ -96,36 +96,36 @@ put_entry keys all key value version distinct inside (Some (Got k v w)) numbered
 put_entry keys all key value version distinct inside (Some (Sourced k p w)) numbered is = cc
 put_entry keys all key value version distinct inside (Some (Missed k)) numbered is = cc
 
-module _ (keys : List (List ℕ)) (all : EntryLists) (put got : OpName) (key : ℕ) (value : Option (List ℕ)) (version : ℕ) (was_got : Some (read (get_or keys key []) value version) ≡ op_at (told_by keys all) got) where
+module _ (keys : List (List ℕ)) (all : EntryLists) (put got : OpName) (key : ℕ) (value : Option (List ℕ)) (version : ℕ) (was_got : Some (read (get_or keys key []) value version) ≡ op_at (reported_by keys all) got) where
   -- a put of that key, value and version is the get's source
-  pub source_there : item_at all put ≡ Some (Put key value version) → SourceStep (told_by keys all) put got
+  pub source_there : item_at all put ≡ Some (Put key value version) → SourceStep (reported_by keys all) put got
   source_there at = record {
     key = get_or keys key [];
     content = value;
     version = version;
-    put = op_at-told keys all put ∙ ap (option_map (told keys all)) at;
+    put = op_at-reported keys all put ∙ ap (option_map (reported keys all)) at;
     got = sym was_got;
   }
 
   -- the get's source is such a put
-  pub source_found : AreSound keys all → AreDistinct keys → key < length keys → SourceStep (told_by keys all) put got → item_at all put ≡ Some (Put key value version)
+  pub source_found : AreSound keys all → AreDistinct keys → key < length keys → SourceStep (reported_by keys all) put got → item_at all put ≡ Some (Put key value version)
   source_found sound distinct inside s =
       let same : Some (read s.key s.content s.version) ≡ Some (read (get_or keys key []) value version) = sym s.got ∙ sym was_got in
       let as_put : Some (write s.key s.content s.version) ≡ Some (write (get_or keys key []) value version) = cc in
-      put_entry keys all key value version distinct inside (item_at all put) (λ e at. (sound put e at).key) (sym (op_at-told keys all put) ∙ s.put ∙ as_put)
+      put_entry keys all key value version distinct inside (item_at all put) (λ e at. (sound put e at).key) (sym (op_at-reported keys all put) ∙ s.put ∙ as_put)
 
 -- a put or a get that found nothing has no source
-pub no_source : (keys : List (List ℕ)) (all : EntryLists) (put got : OpName) (e : Entry) → Some e ≡ item_at all got
-    → ((key : ℕ) × (value : Option (List ℕ)) × (version : ℕ) × (e ≡ Put key value version)) ⊎ ((key : ℕ) × (e ≡ Missed key)) → SourceStep (told_by keys all) put got → ⊥
+pub no_source : (keys : List (List ℕ)) (all : EntryLists) (put got : OpName) (e : StoredOp) → Some e ≡ item_at all got
+    → ((key : ℕ) × (value : Option (List ℕ)) × (version : ℕ) × (e ≡ Put key value version)) ⊎ ((key : ℕ) × (e ≡ Missed key)) → SourceStep (reported_by keys all) put got → ⊥
 no_source keys all put got e at is s =
     elim is [
-      | inl p ↦ let both = told_as keys all got e (write (get_or keys p.0 []) p.1 p.2) at (ap (told keys all) p.3) ∙ s.got in cc
-      | inr p ↦ let both = told_as keys all got e (missed (get_or keys p.0 [])) at (ap (told keys all) p.1) ∙ s.got in cc
+      | inl p ↦ let both = reported_as keys all got e (write (get_or keys p.0 []) p.1 p.2) at (ap (reported keys all) p.3) ∙ s.got in cc
+      | inr p ↦ let both = reported_as keys all got e (missed (get_or keys p.0 [])) at (ap (reported keys all) p.1) ∙ s.got in cc
     ]
 
 -- like the lemma above, for a reference
-pub no_source_there : (keys : List (List ℕ)) (all : EntryLists) (put got : OpName) (e : EntryRef) → Some (referred e) ≡ item_at all got
-    → ((key : ℕ) × (value : Option (Bor Value)) × (version : Bor Version) × (e ≡ PutRef key value version)) ⊎ ((key : ℕ) × (e ≡ MissedRef key)) → SourceStep (told_by keys all) put got → ⊥
+pub no_source_there : (keys : List (List ℕ)) (all : EntryLists) (put got : OpName) (e : StoredOpRef) → Some (referred e) ≡ item_at all got
+    → ((key : ℕ) × (value : Option (Bor Value)) × (version : Bor Version) × (e ≡ PutRef key value version)) ⊎ ((key : ℕ) × (e ≡ MissedRef key)) → SourceStep (reported_by keys all) put got → ⊥
 no_source_there keys all put got e at is =
     no_source keys all put got (referred e) at (elim is [
       | inl p ↦ inl (p.0, option_copied p.1, p.2.now, ap referred p.3)
@@ -133,7 +133,7 @@ no_source_there keys all put got e at is =
     ])
 
 -- an entry that stands for a put is a put's entry
-entry_of_put : (keys : List (List ℕ)) (all : EntryLists) (found : Option Entry) (key : List ℕ) (content : Option (List ℕ)) (version : ℕ) → option_map (told keys all) found ≡ Some (write key content version)
+entry_of_put : (keys : List (List ℕ)) (all : EntryLists) (found : Option StoredOp) (key : List ℕ) (content : Option (List ℕ)) (version : ℕ) → option_map (reported keys all) found ≡ Some (write key content version)
     → (number : ℕ) × (own : Option (List ℕ)) × (found ≡ Some (Put number own version))
 entry_of_put keys all None key content version is = cc
 entry_of_put keys all (Some (Put k v w)) key content version is = let same : w ≡ version = cc in (k, v, ap (λ (n : ℕ). Some (Put k v n)) same)
@@ -142,11 +142,11 @@ entry_of_put keys all (Some (Sourced k p w)) key content version is = cc
 entry_of_put keys all (Some (Missed k)) key content version is = cc
 
 -- the entries of puts stand for all puts
-pub all_puts : (keys : List (List ℕ)) (all : EntryLists) (puts : List VersionedPut) → ListsEntries all puts → AreAllPuts (told_by keys all) puts
+pub all_puts : (keys : List (List ℕ)) (all : EntryLists) (puts : List VersionedPut) → ListsEntries all puts → AreAllPuts (reported_by keys all) puts
 all_puts keys all puts lists = record {
   members = λ p. (
-    (λ there. let e = (lists.members p).0 there in (get_or keys e.0 [], e.1, op_at-told keys all p.name ∙ ap (option_map (told keys all)) e.2)),
-    (λ put. (lists.members p).1 (entry_of_put keys all (item_at all p.name) put.0 put.1 p.version (sym (op_at-told keys all p.name) ∙ put.2))),
+    (λ there. let e = (lists.members p).0 there in (get_or keys e.0 [], e.1, op_at-reported keys all p.name ∙ ap (option_map (reported keys all)) e.2)),
+    (λ put. (lists.members p).1 (entry_of_put keys all (item_at all p.name) put.0 put.1 p.version (sym (op_at-reported keys all p.name) ∙ put.2))),
   );
   once = lists.once;
 }
@@ -154,94 +154,94 @@ all_puts keys all puts lists = record {
 -- the put whose number a get's entry names is its source
 pub names_sources : (keys : List (List ℕ)) (all : EntryLists) → AreSound keys all → (names : List OpName) (got : OpName) (number : Option ℕ)
     → IfSome number (λ n. (put : OpName) × (slice_get names n ≡ Some put) × (key version : ℕ) × (item_at all got ≡ Some (Sourced key (record { name = put; number = n }) version)))
-    → IfSome number (λ n. (put : OpName) × (slice_get names n ≡ Some put) × SourceStep (told_by keys all) put got)
+    → IfSome number (λ n. (put : OpName) × (slice_get names n ≡ Some put) × SourceStep (reported_by keys all) put got)
 names_sources keys all sound names got (Some n) named =
     let put = named.0 in
     let key = named.2 in
     let version = named.3 in
     let at = named.4 in
     let entry = Sourced key (record { name = put; number = n }) version in
-    let was_got = told_as keys all got entry (read (get_or keys key []) (value_put all put) version) (sym at) refl in
+    let was_got = reported_as keys all got entry (read (get_or keys key []) (value_put all put) version) (sym at) refl in
     (put, named.1, source_there keys all put got key (value_put all put) version was_got (sound got entry at).source)
 names_sources keys all sound names got None named = tt
 
 module _ (keys : List (List ℕ)) (all : EntryLists) (name : OpName) where
   -- a put's entry stands for a put
-  pub puts_of : (number : Option ℕ) → IfSome number (λ _. (key version : ℕ) × (value : Option (List ℕ)) × (item_at all name ≡ Some (Put key value version))) → IfSome number (λ _. Puts (told_by keys all) name)
-  puts_of (Some n) put = (put.1, (get_or keys put.0 [], put.2, op_at-told keys all name ∙ ap (option_map (told keys all)) put.3))
+  pub puts_of : (number : Option ℕ) → IfSome number (λ _. (key version : ℕ) × (value : Option (List ℕ)) × (item_at all name ≡ Some (Put key value version))) → IfSome number (λ _. Puts (reported_by keys all) name)
+  puts_of (Some n) put = (put.1, (get_or keys put.0 [], put.2, op_at-reported keys all name ∙ ap (option_map (reported keys all)) put.3))
   puts_of None put = tt
 
   -- without a put's entry there is no put
-  pub no_puts_of : (number : Option ℕ) → IfNone number ((key version : ℕ) (value : Option (List ℕ)) → item_at all name ≢ Some (Put key value version)) → IfNone number (¬ Puts (told_by keys all) name)
+  pub no_puts_of : (number : Option ℕ) → IfNone number ((key version : ℕ) (value : Option (List ℕ)) → item_at all name ≢ Some (Put key value version)) → IfNone number (¬ Puts (reported_by keys all) name)
   no_puts_of (Some n) none = tt
-  no_puts_of None none = λ puts. let e = entry_of_put keys all (item_at all name) puts.1.0 puts.1.1 puts.0 (sym (op_at-told keys all name) ∙ puts.1.2) in none e.0 puts.0 e.1 e.2
+  no_puts_of None none = λ puts. let e = entry_of_put keys all (item_at all name) puts.1.0 puts.1.1 puts.0 (sym (op_at-reported keys all name) ∙ puts.1.2) in none e.0 puts.0 e.1 e.2
 
 -- ---- gets stored with what they returned
 
 module _ (keys : List (List ℕ)) (all : EntryLists) (sound : AreSound keys all) (got : OpName) where
   -- a get that returned something has its source, or is stored with what it returned
-  got_or_sourced : (version : ℕ) → GetsVersion (told_by keys all) got version → ((key own : ℕ) × (value : Option (List ℕ)) × (item_at all got ≡ Some (Got key value own))) ⊎ ((put : OpName) × SourceStep (told_by keys all) put got)
+  got_or_sourced : (version : ℕ) → GetsVersion (reported_by keys all) got version → ((key own : ℕ) × (value : Option (List ℕ)) × (item_at all got ≡ Some (Got key value own))) ⊎ ((put : OpName) × SourceStep (reported_by keys all) put got)
   got_or_sourced version gets_version = by_entry (item_at all got) refl
     where
-      by_entry : (o : Option Entry) → item_at all got ≡ o → ((key own : ℕ) × (value : Option (List ℕ)) × (item_at all got ≡ Some (Got key value own))) ⊎ ((put : OpName) × SourceStep (told_by keys all) put got)
-      by_entry None at = let none = none_told keys all got (sym at) in let there = gets_version.2 in absurd cc
-      by_entry (Some (Put key value own)) at = let both = told_as keys all got (Put key value own) _ (sym at) refl ∙ gets_version.2 in absurd cc
+      by_entry : (o : Option StoredOp) → item_at all got ≡ o → ((key own : ℕ) × (value : Option (List ℕ)) × (item_at all got ≡ Some (Got key value own))) ⊎ ((put : OpName) × SourceStep (reported_by keys all) put got)
+      by_entry None at = let none = none_reported keys all got (sym at) in let there = gets_version.2 in absurd cc
+      by_entry (Some (Put key value own)) at = let both = reported_as keys all got (Put key value own) _ (sym at) refl ∙ gets_version.2 in absurd cc
       by_entry (Some (Got key value own)) at = inl (key, own, value, at)
       by_entry (Some (Sourced key put own)) at =
           let source = (sound got (Sourced key put own) at).source in
-          inr (put.name, source_there keys all put.name got key (value_put all put.name) own (told_as keys all got (Sourced key put own) _ (sym at) refl) source)
-      by_entry (Some (Missed key)) at = let both = told_as keys all got (Missed key) _ (sym at) refl ∙ gets_version.2 in absurd cc
+          inr (put.name, source_there keys all put.name got key (value_put all put.name) own (reported_as keys all got (Sourced key put own) _ (sym at) refl) source)
+      by_entry (Some (Missed key)) at = let both = reported_as keys all got (Missed key) _ (sym at) refl ∙ gets_version.2 in absurd cc
 
   pub sourced_unless_open : (number : Option ℕ) → IfNone number ((key version : ℕ) (value : Option (List ℕ)) → item_at all got ≢ Some (Got key value version))
-      → IfNone number ((version : ℕ) → GetsVersion (told_by keys all) got version → (put : OpName) × SourceStep (told_by keys all) put got)
+      → IfNone number ((version : ℕ) → GetsVersion (reported_by keys all) got version → (put : OpName) × SourceStep (reported_by keys all) put got)
   sourced_unless_open (Some n) none = tt
   sourced_unless_open None none = λ version gets_version. elim (got_or_sourced version gets_version) [
     | inl kept ↦ absurd (none kept.0 kept.1 kept.2 kept.3)
     | inr sourced ↦ sourced
   ]
 
-module _ (keys : List (List ℕ)) (all : EntryLists) (gets : List Entry) where
+module _ (keys : List (List ℕ)) (all : EntryLists) (gets : List StoredOp) where
   abbrev pub IsOpen : OpName → ℕ → Type 0
-  IsOpen got n = (op : Operation) × (slice_get (map (told keys all) gets) n ≡ Some op) × (op_at (told_by keys all) got ≡ Some op)
+  IsOpen got n = (op : Operation) × (slice_get (map (reported keys all) gets) n ≡ Some op) × (op_at (reported_by keys all) got ≡ Some op)
 
   -- the numbered get is that of an entry
   pub numbers_open : (got : OpName) (number : Option ℕ)
       → IfSome number (λ n. (key version : ℕ) × (value : Option (List ℕ)) × (item_at all got ≡ Some (Got key value version)) × (slice_get gets n ≡ Some (Got key value version)))
       → IfSome number (IsOpen got)
   numbers_open got (Some n) at = (
-    told keys all (Got at.0 at.2 at.1),
-    slice_get-map (told keys all) gets n ∙ ap (option_map (told keys all)) at.4,
-    op_at-told keys all got ∙ ap (option_map (told keys all)) at.3,
+    reported keys all (Got at.0 at.2 at.1),
+    slice_get-map (reported keys all) gets n ∙ ap (option_map (reported keys all)) at.4,
+    op_at-reported keys all got ∙ ap (option_map (reported keys all)) at.3,
   )
   numbers_open got None at = tt
 
   -- each get that returned something is a numbered one, or has its source
   pub open_or_sourced : AreSound keys all
       → ((name : OpName) (key version : ℕ) (value : Option (List ℕ)) → item_at all name ≡ Some (Got key value version) → (n : ℕ) × (slice_get gets n ≡ Some (Got key value version)))
-      → (got : OpName) (version : ℕ) → GetsVersion (told_by keys all) got version
-      → ((n : ℕ) × IsOpen got n) ⊎ ((put : OpName) × SourceStep (told_by keys all) put got)
+      → (got : OpName) (version : ℕ) → GetsVersion (reported_by keys all) got version
+      → ((n : ℕ) × IsOpen got n) ⊎ ((put : OpName) × SourceStep (reported_by keys all) put got)
   open_or_sourced sound kept got version gets_version = elim (got_or_sourced keys all sound got version gets_version) [
     | inl k ↦
         let n = kept got k.0 k.1 k.2 k.3 in
         inl (
           n.0,
           (
-            told keys all (Got k.0 k.2 k.1),
-            slice_get-map (told keys all) gets n.0 ∙ ap (option_map (told keys all)) n.1,
-            op_at-told keys all got ∙ ap (option_map (told keys all)) k.3,
+            reported keys all (Got k.0 k.2 k.1),
+            slice_get-map (reported keys all) gets n.0 ∙ ap (option_map (reported keys all)) n.1,
+            op_at-reported keys all got ∙ ap (option_map (reported keys all)) k.3,
           ),
         )
     | inr sourced ↦ inr sourced
   ]
 
 -- an operation has an entry
-named_entry : (keys : List (List ℕ)) (all : EntryLists) (o : Option Entry) (op : Operation) → option_map (told keys all) o ≡ Some op → (entry : Entry) × (o ≡ Some entry)
+named_entry : (keys : List (List ℕ)) (all : EntryLists) (o : Option StoredOp) (op : Operation) → option_map (reported keys all) o ≡ Some op → (entry : StoredOp) × (o ≡ Some entry)
 named_entry keys all None op is = cc
 named_entry keys all (Some entry) op is = (entry, refl)
 
 -- operations keep their numbers if entries do
-pub operations_keep : (keys : List (List ℕ)) (all : EntryLists) (old new : List (List (Option ℕ))) → ((name : OpName) (entry : Entry) → item_at all name ≡ Some entry → number_at new name ≡ number_at old name)
-    → (name : OpName) → IsNamed (told_by keys all) name → number_at new name ≡ number_at old name
+pub operations_keep : (keys : List (List ℕ)) (all : EntryLists) (old new : List (List (Option ℕ))) → ((name : OpName) (entry : StoredOp) → item_at all name ≡ Some entry → number_at new name ≡ number_at old name)
+    → (name : OpName) → IsNamed (reported_by keys all) name → number_at new name ≡ number_at old name
 operations_keep keys all old new keeps name named =
-    let entry = named_entry keys all (item_at all name) named.0 (sym (op_at-told keys all name) ∙ named.1) in
+    let entry = named_entry keys all (item_at all name) named.0 (sym (op_at-reported keys all name) ∙ named.1) in
     keeps name entry.0 entry.1

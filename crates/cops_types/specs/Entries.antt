@@ -1,9 +1,9 @@
 -- Entries: operations as a history stores them, with numbers for their keys and, in some gets, the put in place of its value.
 use Rattle.std.specs.Prelude.{◌≡◌, ◌≢◌, ◌↔◌, ◌<◌, ◌≤◌, ◌+◌, ◌⊎◌, ◌++◌, ◌∷◌, ℕ, List, [], length, map, Option, Some, None, option_copied, slice_get, slice_index_or, Bool, true, false, Contains, AllPairs}
-use Rattle.cops_types.specs.declared.entry.Entry.{Entry}
-use Rattle.cops_types.specs.declared.entry.Entry.TheVariants.{Put, Got, Sourced, Missed}
-use Rattle.cops_types.specs.declared.entry.EntryRef.{EntryRef}
-use Rattle.cops_types.specs.declared.entry.EntryRef.TheVariants.{Put as PutRef, Got as GotRef, Sourced as SourcedRef, Missed as MissedRef}
+use Rattle.cops_types.specs.declared.entry.StoredOp.{StoredOp}
+use Rattle.cops_types.specs.declared.entry.StoredOp.TheVariants.{Put, Got, Sourced, Missed}
+use Rattle.cops_types.specs.declared.entry.StoredOpRef.{StoredOpRef}
+use Rattle.cops_types.specs.declared.entry.StoredOpRef.TheVariants.{Put as PutRef, Got as GotRef, Sourced as SourcedRef, Missed as MissedRef}
 use Rattle.cops_types.specs.declared.op.OpName.{OpName}
 use Rattle.cops_types.specs.declared.versioned_put.VersionedPut.{VersionedPut}
 use Rattle.cops_types.specs.Lists.{item_at, number_at}
@@ -11,7 +11,7 @@ use Rattle.cops_types.specs.Histories.{Sessions, Operation, write, read, missed}
 
 -- the entries of each client, in their order
 abbrev pub EntryLists : Type 0
-EntryLists = List (List Entry)
+EntryLists = List (List StoredOp)
 
 -- the entries; for each client whether there is room for its next one; the names of the puts in the order in which they were added; the gets stored
 -- with what they returned, each at its number; for each entry its number among these gets, if it has one; and the room for further puts and such gets
@@ -19,20 +19,20 @@ pub record KeptEntries : Type 0 where
   pub all : EntryLists
   pub room : List Bool
   pub names : List OpName
-  pub gets : List Entry
+  pub gets : List StoredOp
   pub get_numbers : List (List (Option ℕ))
   pub more_puts : ℕ
   pub more_gets : ℕ
 
 -- the number of an entry's key
-abbrev pub key_number_of : Entry → ℕ
+abbrev pub key_number_of : StoredOp → ℕ
 key_number_of (Put key value version) = key
 key_number_of (Got key value version) = key
 key_number_of (Sourced key put version) = key
 key_number_of (Missed key) = key
 
 -- the content, if the entry is a put
-abbrev pub value_in : Option Entry → Option (List ℕ)
+abbrev pub value_in : Option StoredOp → Option (List ℕ)
 value_in (Some (Put key value version)) = value
 value_in _ = None
 
@@ -41,43 +41,43 @@ abbrev pub value_put : EntryLists → OpName → Option (List ℕ)
 value_put all put = value_in (item_at all put)
 
 -- the operation that an entry stands for
-abbrev pub told : List (List ℕ) → EntryLists → Entry → Operation
-told keys all (Put key value version) = write (slice_index_or keys key []) value version
-told keys all (Got key value version) = read (slice_index_or keys key []) value version
-told keys all (Sourced key put version) = read (slice_index_or keys key []) (value_put all put.name) version
-told keys all (Missed key) = missed (slice_index_or keys key [])
+abbrev pub reported : List (List ℕ) → EntryLists → StoredOp → Operation
+reported keys all (Put key value version) = write (slice_index_or keys key []) value version
+reported keys all (Got key value version) = read (slice_index_or keys key []) value version
+reported keys all (Sourced key put version) = read (slice_index_or keys key []) (value_put all put.name) version
+reported keys all (Missed key) = missed (slice_index_or keys key [])
 
 -- the history that the entries stand for
-abbrev pub told_by : List (List ℕ) → EntryLists → Sessions
-told_by keys all = map (map (told keys all)) all
+abbrev pub reported_by : List (List ℕ) → EntryLists → Sessions
+reported_by keys all = map (map (reported keys all)) all
 
 -- the put that the entry names is there, with the entry's key and version
-abbrev pub HasSource : EntryLists → Entry → Type 0
+abbrev pub HasSource : EntryLists → StoredOp → Type 0
 HasSource all (Sourced key put version) = item_at all put.name ≡ Some (Put key (value_put all put.name) version)
 HasSource all _ = Unit {0}
 
 -- the entry's key is there, and so is the put that it names, if it names one
-pub record IsSound (keys : List (List ℕ)) (all : EntryLists) (entry : Entry) : Type 0 where
+pub record IsSound (keys : List (List ℕ)) (all : EntryLists) (entry : StoredOp) : Type 0 where
   pub key : key_number_of entry < length keys
   pub source : HasSource all entry
 
 abbrev pub AreSound : List (List ℕ) → EntryLists → Type 0
-AreSound keys all = (name : OpName) (entry : Entry) → item_at all name ≡ Some entry → IsSound keys all entry
+AreSound keys all = (name : OpName) (entry : StoredOp) → item_at all name ≡ Some entry → IsSound keys all entry
 
 -- the put that the entry names has the number in the entry
-abbrev pub IsNumbered : List OpName → Entry → Type 0
+abbrev pub IsNumbered : List OpName → StoredOp → Type 0
 IsNumbered names (Sourced key put version) = slice_get names put.number ≡ Some put.name
 IsNumbered names _ = Unit {0}
 
 -- the entry that a reference borrows
-abbrev pub referred : EntryRef → Entry
+abbrev pub referred : StoredOpRef → StoredOp
 referred (PutRef key value version) = Put key (option_copied value) version.now
 referred (GotRef key value version) = Got key (option_copied value) version.now
 referred (SourcedRef key put value version) = Sourced key put version.now
 referred (MissedRef key) = Missed key
 
 -- the reference has the value of the put that it names
-abbrev pub HasValue : EntryLists → EntryRef → Type 0
+abbrev pub HasValue : EntryLists → StoredOpRef → Type 0
 HasValue all (SourcedRef key put value version) = option_copied value ≡ value_put all put.name
 HasValue all _ = Unit {0}
 
@@ -92,7 +92,7 @@ pub record KeepsEntries (old new : KeptEntries) : Type 0 where
   pub others : (client : ℕ) → slice_index_or old.room client false ≡ true → slice_index_or new.room client false ≡ true
 
 -- the number of puts in an entry
-abbrev pub puts_in : Entry → ℕ
+abbrev pub puts_in : StoredOp → ℕ
 puts_in (Put key value version) = 1
 puts_in (Got key value version) = 0
 puts_in (Sourced key put version) = 0
@@ -100,7 +100,7 @@ puts_in (Missed key) = 0
 
 -- the entry was added, with a name if it is a put, and among the gets if it is stored with what it returned; it took at most one place of the room
 -- for each
-pub record GainsEntry (entry : Entry) (old new : KeptEntries) : Type 0 where
+pub record GainsEntry (entry : StoredOp) (old new : KeptEntries) : Type 0 where
   pub names : length new.names ≡ length old.names + puts_in entry
   pub gets : (new.gets ≡ old.gets) ⊎ (new.gets ≡ old.gets ++ entry ∷ [])
   pub more_puts : old.more_puts ≤ new.more_puts + 1
@@ -108,7 +108,7 @@ pub record GainsEntry (entry : Entry) (old new : KeptEntries) : Type 0 where
 
 -- each entry keeps its number, if it has one
 abbrev pub KeepsNumbers : KeptEntries → KeptEntries → Type 0
-KeepsNumbers old new = (name : OpName) (entry : Entry) → item_at old.all name ≡ Some entry → number_at new.get_numbers name ≡ number_at old.get_numbers name
+KeepsNumbers old new = (name : OpName) (entry : StoredOp) → item_at old.all name ≡ Some entry → number_at new.get_numbers name ≡ number_at old.get_numbers name
 
 -- all entries of puts by their names and versions, each once
 pub record ListsEntries (all : EntryLists) (puts : List VersionedPut) : Type 0 where

@@ -1,10 +1,10 @@
 -- The invariant of a history.
 use Rattle.std.specs.Prelude.{◌≡◌, ◌<◌, ◌≤◌, ℕ, List, length, slice_get, slice_index_or, Some, Bool, true, false, sum_by}
 use Rattle.cops_types.specs.Counts.{count_of, put_count}
-use Rattle.cops_types.specs.declared.entry.Entry.{Entry}
-use Rattle.cops_types.specs.declared.heights.Heights.{Heights}
-use Rattle.cops_types.specs.Entries.{KeptEntries, told_by, AreSound, key_number_of}
-use Rattle.cops_types.specs.Heights.{AreSessionHeights}
+use Rattle.cops_types.specs.declared.entry.StoredOp.{StoredOp}
+use Rattle.cops_types.specs.declared.maxima.Maxima.{Maxima}
+use Rattle.cops_types.specs.Entries.{KeptEntries, reported_by, AreSound, key_number_of}
+use Rattle.cops_types.specs.Maxima.{AreSessionMaxima}
 use Rattle.cops_types.specs.KeySets.{KeptKeys, AreDistinct}
 use Rattle.cops_types.specs.Recorded.{IsWithinLimits}
 
@@ -15,10 +15,10 @@ flag_count false = 0
 
 -- there are `len` operations, whose keys and sources are there, a name for each put, and the maxima of the sessions; each client that made a
 -- reservation has room for its next operation among its entries, and there is room for all reservations among the keys, the puts and the gets
-pub record IsKept (keys : KeptKeys) (entries : KeptEntries) (heights : Heights) (reserved : List Bool) (reservations len : ℕ) : Type 0 where
-  pub limits : IsWithinLimits (told_by keys.keys entries.all)
-  pub count : len ≡ count_of (told_by keys.keys entries.all)
-  pub counted : length entries.names ≡ put_count (told_by keys.keys entries.all)
+pub record IsKept (keys : KeptKeys) (entries : KeptEntries) (maxima : Maxima) (reserved : List Bool) (reservations len : ℕ) : Type 0 where
+  pub limits : IsWithinLimits (reported_by keys.keys entries.all)
+  pub count : len ≡ count_of (reported_by keys.keys entries.all)
+  pub counted : length entries.names ≡ put_count (reported_by keys.keys entries.all)
   pub sound : AreSound keys.keys entries.all
   pub distinct : AreDistinct keys.keys
   pub few : length keys.keys ≤ len
@@ -30,5 +30,5 @@ pub record IsKept (keys : KeptKeys) (entries : KeptEntries) (heights : Heights) 
   pub get_places : reservations ≤ entries.more_gets
   pub few_names : length entries.names ≤ len
   pub few_gets : length entries.gets ≤ len
-  pub get_keys : (number : ℕ) (entry : Entry) → slice_get entries.gets number ≡ Some entry → key_number_of entry < length keys.keys
-  pub session_heights : AreSessionHeights (told_by keys.keys entries.all) heights
+  pub get_keys : (number : ℕ) (entry : StoredOp) → slice_get entries.gets number ≡ Some entry → key_number_of entry < length keys.keys
+  pub session_maxima : AreSessionMaxima (reported_by keys.keys entries.all) maxima

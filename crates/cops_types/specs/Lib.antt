@@ -25,7 +25,7 @@ pub mod KeySets
 pub mod Blocks
 pub mod Entries
 pub mod Slots
-pub mod Heights
+pub mod Maxima
 pub mod Keeping
 pub mod PutLists
 pub mod Failures

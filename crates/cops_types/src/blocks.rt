@@ -1,7 +1,7 @@
 ghost use Rattle.std.specs.Prelude.{◌≡◌, slice_get, option_copied};
 
 use crate::fault::Memory;
-use crate::slot::Slot;
+use crate::slot::OpSlot;
 use std::alloc::Global;
 use std::marker::Model;
 use std::mem;
@@ -12,8 +12,8 @@ const BLOCK: usize = 64;
 /// A list of entries in blocks. It grows without moving the entries of full blocks.
 #[derive(Debug, Drop)]
 pub(crate) struct Blocks {
-    full: Vec<Vec<Slot>>,
-    last: Vec<Slot>,
+    full: Vec<Vec<OpSlot>>,
+    last: Vec<OpSlot>,
 }
 
 impl Model for Blocks {
@@ -49,7 +49,7 @@ impl Blocks {
     }
 
     /// The entry at an index, if there is one.
-    pub(crate) fn get(&self, index: usize) -> Option<&Slot>
+    pub(crate) fn get(&self, index: usize) -> Option<&OpSlot>
         ensures { option_copied result ≡ slice_get self.now.items index }
     {
         match self.full.get(index / BLOCK) {
@@ -76,7 +76,7 @@ impl Blocks {
     }
 
     /// Adds the next entry, in room that was reserved. Allocates nothing.
-    pub(crate) fn push(&mut self, slot: Slot)
+    pub(crate) fn push(&mut self, slot: OpSlot)
         requires room { self.old.room ≡ true }
         requires few { length self.old.items < MAX_CLIENT_OPS }
         ensures { self.new.items ≡ self.old.items ++ slot ∷ [] }
@@ -86,7 +86,7 @@ impl Blocks {
 }
 
 /// The entry at an index, if there is one.
-fn entry_at(entries: &[Slot], index: usize) -> Option<&Slot>
+fn entry_at(entries: &[OpSlot], index: usize) -> Option<&OpSlot>
     ensures { option_copied result ≡ slice_get entries.now index }
 {
     entries.get(index)

@@ -2,16 +2,16 @@ ghost use Rattle.std.specs.Prelude.{◌≡◌, ◌≢◌, ◌<◌, ◌≤◌, �
 ghost use Rattle.cops_types.specs.Lists.{item_at, with_item};
 ghost use Rattle.cops_types.specs.Entries.{referred};
 ghost use Rattle.cops_types.specs.Slots.{IsFrom, IsThere, got_shown, shown, versioned};
-ghost use Rattle.cops_types.specs.declared.slot.Slot.TheVariants.{Put as PutSlot, Got as GotSlot, Sourced as SourcedSlot};
+ghost use Rattle.cops_types.specs.declared.slot.OpSlot.TheVariants.{Put as PutSlot, Got as GotSlot, Sourced as SourcedSlot};
 ghost use Rattle.cops_types.specs.declared.limits.TheConstants.{MAX_CLIENT_OPS};
 
 use crate::blocks::Blocks;
-use crate::entry::{Entry, EntryRef, NumberedPut};
+use crate::entry::{NumberedPut, StoredOp, StoredOpRef};
 use crate::fault::Memory;
 use crate::op::OpName;
 use crate::op_ref::is_same_content;
 use crate::op_view::ValueView;
-use crate::slot::{KeptGot, KeptPut, Slot, flagged};
+use crate::slot::{KeptGot, KeptPut, OpSlot, flagged};
 use crate::value::Value;
 use crate::version::Version;
 use crate::versioned_put::VersionedPut;
@@ -55,7 +55,7 @@ impl Entries {
     ghost use Rattle.cops_types.specs.Lists.{item_at, number_at, with_item};
     ghost use Rattle.cops_types.specs.Entries.{GainsEntry, HasSource, HasValue, IsNumbered, KeepsEntries, KeepsNumbers, ListsEntries, referred, value_put};
     ghost use Rattle.cops_types.specs.Recorded.{AreNumbered};
-    ghost use Rattle.cops_types.specs.declared.entry.Entry.TheVariants.{Put, Got, Sourced, Missed};
+    ghost use Rattle.cops_types.specs.declared.entry.StoredOp.TheVariants.{Put, Got, Sourced, Missed};
     ghost use Rattle.cops_types.specs.declared.limits.TheConstants.{MAX_CLIENT_OPS, MAX_OPS};
 
     /// No entries, for `clients` clients. Fails if memory runs out.
@@ -122,7 +122,7 @@ impl Entries {
     }
 
     /// The entry of that name, if there is one.
-    pub(crate) fn get(&self, name: OpName) -> Option<EntryRef<'_>>
+    pub(crate) fn get(&self, name: OpName) -> Option<StoredOpRef<'_>>
         ensures entry { option_map referred result ≡ item_at self.now.all name }
         ensures value { IfSome result (HasValue self.now.all) }
     {
@@ -155,7 +155,7 @@ impl Entries {
         ensures none { IfNone result ((key version : ℕ) (value : Option (List ℕ)) → item_at self.now.all name ≢ Some (Put key value version)) }
     {
         match self.get(name)? {
-            EntryRef::Put { value, .. } => Some(value),
+            StoredOpRef::Put { value, .. } => Some(value),
             _ => None,
         }
     }
@@ -172,7 +172,7 @@ impl Entries {
     {
         match self.get(name) {
             Some(
-                EntryRef::Put {
+                StoredOpRef::Put {
                     key: put_key,
                     value: put_value,
                     version: put_version,
@@ -280,7 +280,7 @@ impl Entries {
 
     /// Adds a client's next entry. Allocates nothing: room has to be reserved.
     #[inline(always)]
-    pub(crate) fn push(&mut self, client: u16, entry: Entry)
+    pub(crate) fn push(&mut self, client: u16, entry: StoredOp)
         requires inside { client < length self.old.all }
         requires room { slice_index_or self.old.room client false ≡ true }
         requires few { length (slice_index_or self.old.all client []) < MAX_CLIENT_OPS }
@@ -296,18 +296,18 @@ impl Entries {
         ensures others { (c : ℕ) → c ≢ client → slice_index_or self.old.room c false ≡ true → slice_index_or self.new.room c false ≡ true }
     {
         match entry {
-            Entry::Put {
+            StoredOp::Put {
                 key,
                 value,
                 version,
             } => self.push_put(client, key, value, version),
-            Entry::Got {
+            StoredOp::Got {
                 key,
                 value,
                 version,
             } => self.push_got(client, key, value, version),
-            Entry::Sourced { key, put, version } => self.push_sourced(client, key, put, version),
-            Entry::Missed { key } => self.push_missed(client, key),
+            StoredOp::Sourced { key, put, version } => self.push_sourced(client, key, put, version),
+            StoredOp::Missed { key } => self.push_missed(client, key),
         }
     }
 
@@ -329,7 +329,7 @@ impl Entries {
             client,
             index: slot_count(&self.sessions, client) as u32,
         };
-        push_slot(&mut self.sessions, client, Slot::Put(number));
+        push_slot(&mut self.sessions, client, OpSlot::Put(number));
         let (has_value, value) = flagged(*self.puts.allocator(), value);
         self.puts.push_reserved(KeptPut {
             name,
@@ -354,7 +354,7 @@ impl Entries {
         ensures others { (c : ℕ) → c ≢ client → slice_index_or self.old.room c false ≡ true → slice_index_or self.new.room c false ≡ true }
     {
         let number = self.gets.len() as u32;
-        push_slot(&mut self.sessions, client, Slot::Got(number));
+        push_slot(&mut self.sessions, client, OpSlot::Got(number));
         let (has_value, value) = flagged(*self.gets.allocator(), value);
         self.gets.push_reserved(KeptGot {
             key,
@@ -377,7 +377,7 @@ impl Entries {
         ensures numbers { KeepsNumbers self.old self.new }
         ensures others { (c : ℕ) → c ≢ client → slice_index_or self.old.room c false ≡ true → slice_index_or self.new.room c false ≡ true }
     {
-        push_slot(&mut self.sessions, client, Slot::Sourced(put.number));
+        push_slot(&mut self.sessions, client, OpSlot::Sourced(put.number));
     }
 
     /// Adds a get that found nothing.
@@ -391,7 +391,7 @@ impl Entries {
         ensures numbers { KeepsNumbers self.old self.new }
         ensures others { (c : ℕ) → c ≢ client → slice_index_or self.old.room c false ≡ true → slice_index_or self.new.room c false ≡ true }
     {
-        push_slot(&mut self.sessions, client, Slot::Missed(key));
+        push_slot(&mut self.sessions, client, OpSlot::Missed(key));
     }
 }
 
@@ -419,7 +419,7 @@ fn slot_count(sessions: &[Blocks], client: u16) -> usize
 
 /// Adds a client's next slot. Allocates nothing: room has to be reserved.
 #[inline(always)]
-fn push_slot(sessions: &mut Vec<Blocks>, client: u16, slot: Slot)
+fn push_slot(sessions: &mut Vec<Blocks>, client: u16, slot: OpSlot)
     requires inside { client < length sessions.old.items }
     requires room { slice_index_or (map (λ s. s.room) sessions.old.items) client false ≡ true }
     requires few { length (slice_index_or (map (λ s. s.items) sessions.old.items) client []) < MAX_CLIENT_OPS }
@@ -433,7 +433,7 @@ fn push_slot(sessions: &mut Vec<Blocks>, client: u16, slot: Slot)
 
 /// The slot of that name, if there is one.
 #[inline(always)]
-fn slot_at(sessions: &[Blocks], name: OpName) -> Option<&Slot>
+fn slot_at(sessions: &[Blocks], name: OpName) -> Option<&OpSlot>
     ensures { option_copied result ≡ item_at (map (λ s. s.items) sessions.now) name }
 {
     sessions.get(name.client as usize)?.get(name.index as usize)
@@ -445,7 +445,7 @@ fn number_at(sessions: &[Blocks], name: OpName) -> Option<u32>
     ensures { (n : ℕ) → (result ≡ Some n) ↔ (item_at (map (λ s. s.items) sessions.now) name ≡ Some (PutSlot n)) }
 {
     match slot_at(sessions, name)? {
-        Slot::Put(number) => Some(*number),
+        OpSlot::Put(number) => Some(*number),
         _ => None,
     }
 }
@@ -456,7 +456,7 @@ fn source_number_at(sessions: &[Blocks], name: OpName) -> Option<u32>
     ensures { IfSome result (λ n. item_at (map (λ s. s.items) sessions.now) name ≡ Some (SourcedSlot n)) }
 {
     match slot_at(sessions, name)? {
-        Slot::Sourced(number) => Some(*number),
+        OpSlot::Sourced(number) => Some(*number),
         _ => None,
     }
 }
@@ -467,30 +467,30 @@ fn got_number_at(sessions: &[Blocks], name: OpName) -> Option<u32>
     ensures { (n : ℕ) → (result ≡ Some n) ↔ (item_at (map (λ s. s.items) sessions.now) name ≡ Some (GotSlot n)) }
 {
     match slot_at(sessions, name)? {
-        Slot::Got(number) => Some(*number),
+        OpSlot::Got(number) => Some(*number),
         _ => None,
     }
 }
 
 /// The entry of a slot that refers to these puts and gets.
 #[inline(always)]
-fn refer<'a>(puts: &'a [KeptPut], gets: &'a [KeptGot], slot: Slot) -> EntryRef<'a>
+fn refer<'a>(puts: &'a [KeptPut], gets: &'a [KeptGot], slot: OpSlot) -> StoredOpRef<'a>
     requires { IsThere (length puts.now) (length gets.now) slot }
     ensures entry { referred result ≡ shown puts.now gets.now slot }
     ensures put { IsFrom puts.now result }
 {
     match slot {
-        Slot::Put(number) => {
+        OpSlot::Put(number) => {
             let put = &puts[number as usize];
-            EntryRef::Put {
+            StoredOpRef::Put {
                 key: put.key,
                 value: put.content(),
                 version: &put.version,
             }
         }
-        Slot::Sourced(number) => {
+        OpSlot::Sourced(number) => {
             let put = &puts[number as usize];
-            EntryRef::Sourced {
+            StoredOpRef::Sourced {
                 key: put.key,
                 put: NumberedPut {
                     name: put.name,
@@ -500,15 +500,15 @@ fn refer<'a>(puts: &'a [KeptPut], gets: &'a [KeptGot], slot: Slot) -> EntryRef<'
                 version: &put.version,
             }
         }
-        Slot::Got(number) => {
+        OpSlot::Got(number) => {
             let got = &gets[number as usize];
-            EntryRef::Got {
+            StoredOpRef::Got {
                 key: got.key,
                 value: got.content(),
                 version: &got.version,
             }
         }
-        Slot::Missed(key) => EntryRef::Missed { key },
+        OpSlot::Missed(key) => StoredOpRef::Missed { key },
     }
 }
 

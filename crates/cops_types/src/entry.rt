@@ -11,7 +11,7 @@ pub(crate) struct NumberedPut {
 
 /// An operation to be added to a history. A number stands for its key.
 #[derive(Debug, Drop)]
-pub(crate) enum Entry {
+pub(crate) enum StoredOp {
     /// A put, and its version. Without a value it is a deletion.
     Put {
         key: u32,
@@ -36,9 +36,9 @@ pub(crate) enum Entry {
     },
 }
 
-/// Like `Entry`, but borrowed from a history.
+/// Like `StoredOp`, but borrowed from a history.
 #[derive(Clone, Copy, Debug)]
-pub(crate) enum EntryRef<'a> {
+pub(crate) enum StoredOpRef<'a> {
     Put {
         key: u32,
         value: Option<&'a Value>,
@@ -61,7 +61,7 @@ pub(crate) enum EntryRef<'a> {
     },
 }
 
-impl EntryRef<'_> {
+impl StoredOpRef<'_> {
     ghost use Rattle.std.specs.Prelude.{◌≡◌};
     ghost use Rattle.cops_types.specs.Entries.{key_number_of, referred};
 
@@ -70,10 +70,10 @@ impl EntryRef<'_> {
         ensures { result ≡ key_number_of (referred self.now) }
     {
         match self {
-            EntryRef::Put { key, .. }
-            | EntryRef::Got { key, .. }
-            | EntryRef::Sourced { key, .. }
-            | EntryRef::Missed { key } => *key,
+            StoredOpRef::Put { key, .. }
+            | StoredOpRef::Got { key, .. }
+            | StoredOpRef::Sourced { key, .. }
+            | StoredOpRef::Missed { key } => *key,
         }
     }
 }

@@ -1,7 +1,7 @@
 ghost use Rattle.std.specs.Prelude.{◌≡◌, ◌<◌, ◌+◌, ℕ, List, [], Some, IfOk, IfSome, OnErr, OnOk, length, option_copied, slice_get, slice_index_or};
 ghost use Rattle.cops_types.specs.declared.limits.TheConstants.{MAX_CLIENT_OPS, MAX_OPS};
-ghost use Rattle.cops_types.specs.declared.entry.Entry.TheVariants.{Put};
-ghost use Rattle.cops_types.specs.Entries.{AreSound, HasSource, IsNumbered, IsSound, key_number_of, told};
+ghost use Rattle.cops_types.specs.declared.entry.StoredOp.TheVariants.{Put};
+ghost use Rattle.cops_types.specs.Entries.{AreSound, HasSource, IsNumbered, IsSound, key_number_of, reported};
 ghost use Rattle.cops_types.specs.Lists.{item_at};
 ghost use Rattle.cops_types.specs.KeySets.{AreDistinct, GainsKey};
 ghost use Rattle.cops_types.specs.Histories.{read};
@@ -9,16 +9,16 @@ ghost use Rattle.cops_types.specs.Operations.{key_of, operation_of};
 ghost use Rattle.cops_types.specs.OpViews.{viewed};
 
 use crate::entries::Entries;
-use crate::entry::{Entry, EntryRef, NumberedPut};
+use crate::entry::{NumberedPut, StoredOp, StoredOpRef};
 use crate::fault::{Memory, TypeFault};
-use crate::foresight::{Foresight, Guess};
-use crate::heights::Heights;
 use crate::key::Key;
 use crate::key_set::KeySet;
 use crate::limits::{MAX_CLIENT_OPS, MAX_OPS};
+use crate::maxima::Maxima;
 use crate::op::{Op, OpName};
 use crate::op_ref::OpRef;
 use crate::op_view::{KeyView, OpView, ValueView};
+use crate::prefetcher::{Candidate, Prefetcher};
 use crate::session_ref::SessionRef;
 use crate::value::Value;
 use crate::version::Version;
@@ -36,28 +36,28 @@ pub struct History {
     reserved: Vec<bool>,
     reservations: usize,
     len: usize,
-    heights: Heights,
-    foresight: Foresight,
+    maxima: Maxima,
+    prefetcher: Prefetcher,
 }
 
 impl Model for History {
     ghost use Rattle.cops_types.specs.Recorded.{Recorded};
     ghost use Rattle.std.specs.Prelude.{map};
-    ghost use Rattle.cops_types.specs.Entries.{told, told_by};
+    ghost use Rattle.cops_types.specs.Entries.{reported, reported_by};
     ghost use Rattle.cops_types.specs.Keeping.{IsKept};
 
     ghost Value = { Recorded };
 
     ghost view = { λ a. record {
-      sessions = told_by a.keys.keys a.entries.all;
+      sessions = reported_by a.keys.keys a.entries.all;
       room = a.reserved.items;
       keys = a.keys.keys;
       puts = a.entries.names;
-      gets = map (told a.keys.keys a.entries.all) a.entries.gets;
+      gets = map (reported a.keys.keys a.entries.all) a.entries.gets;
       get_numbers = a.entries.get_numbers;
     } };
 
-    ghost invariant = { λ a. IsKept a.keys a.entries a.heights a.reserved.items a.reservations a.len };
+    ghost invariant = { λ a. IsKept a.keys a.entries a.maxima a.reserved.items a.reservations a.len };
 }
 
 impl History {
@@ -74,7 +74,7 @@ impl History {
     ghost use Rattle.cops_types.specs.TypeFaults.{IsHistoryFault};
     ghost use Rattle.cops_types.specs.Faults.{IsNotAbove};
     ghost use Rattle.cops_types.specs.Lists.{number_at};
-    ghost use Rattle.cops_types.specs.Heights.{HasNotAbove, IsSessionAbove};
+    ghost use Rattle.cops_types.specs.Maxima.{HasNotAbove, IsSessionAbove};
     ghost use Rattle.cops_types.specs.Verdicts.{AllAbove};
 
     /// A history of `clients` clients, each with an empty session. Fails if memory runs out.
@@ -82,7 +82,7 @@ impl History {
         ensures { IfOk result (λ history. history.sessions ≡ replicate clients []) }
     {
         let entries = Entries::new(alloc, clients)?;
-        let heights = Heights::new(alloc, clients)?;
+        let maxima = Maxima::new(alloc, clients)?;
         let reserved = vec![in alloc; false; clients as usize]?;
         Ok(History {
             keys: KeySet::new(alloc),
@@ -90,8 +90,8 @@ impl History {
             reserved,
             reservations: 0,
             len: 0,
-            heights,
-            foresight: Foresight::new(alloc),
+            maxima,
+            prefetcher: Prefetcher::new(alloc),
         })
     }
 
@@ -137,22 +137,22 @@ impl History {
 
     /// Whether prefetching is useful. If not, the memory that later operations need is in the caches anyway.
     pub fn looks_ahead(&self) -> bool {
-        self.foresight.looks_ahead(&self.keys)
+        self.prefetcher.looks_ahead(&self.keys)
     }
 
     /// Prefetches the memory that these operations need, on the assumption that they are added next and in this order.
     /// The history does not change.
-    pub fn foresee(&mut self, coming: &[OpView<'_>])
+    pub fn prefetch(&mut self, coming: &[OpView<'_>])
         ensures { self.new ≡ self.old }
     {
-        self.foresight.foresee(&self.keys, &self.entries, coming);
+        self.prefetcher.prefetch(&self.keys, &self.entries, coming);
     }
 
     /// Drops the candidates that only speed up adding operations. The history does not change.
-    pub fn forget_guesses(&mut self)
+    pub fn forget_candidates(&mut self)
         ensures { self.new ≡ self.old }
     {
-        self.foresight.forget();
+        self.prefetcher.forget();
     }
 
     /// Whether the client may have one more operation.
@@ -186,12 +186,12 @@ impl History {
         if self.reserved[client as usize] {
             return Ok(());
         }
-        self.hold_anew(client)
+        self.hold_again(client)
     }
 
     /// Like `hold`, where no room is reserved yet.
     #[inline(always)]
-    fn hold_anew(&mut self, client: u16) -> Result<(), Memory>
+    fn hold_again(&mut self, client: u16) -> Result<(), Memory>
         requires inside { client < length self.old.sessions }
         requires none { slice_index_or self.old.room client false ≡ false }
         ensures same { self.new.sessions ≡ self.old.sessions }
@@ -202,7 +202,7 @@ impl History {
         let more = self.reservations + 1;
         self.entries.reserve(client, more)?;
         self.keys.reserve(more)?;
-        self.foresight.grow(&self.keys, self.len);
+        self.prefetcher.grow(&self.keys, self.len);
         self.reserved[client as usize] = true;
         self.reservations = more;
         Ok(())
@@ -219,8 +219,8 @@ impl History {
         ensures open { KeepsOpen self.old self.new }
         ensures others { (c : ℕ) → c ≢ client → HasRoom self.old c → HasRoom self.new c }
     {
-        let entry = entry_of(&mut self.keys, &mut self.foresight, &self.entries, op);
-        self.heights.take_in(client, &entry);
+        let entry = entry_of(&mut self.keys, &mut self.prefetcher, &self.entries, op);
+        self.maxima.take_in(client, &entry);
         self.entries.push(client, entry);
         self.reserved[client as usize] = false;
         self.reservations -= 1;
@@ -230,7 +230,7 @@ impl History {
     /// Adds the client's next operation from borrowed bytes, in the room that `reserve` made. Copies what is new of it.
     /// Changes nothing if memory runs out.
     #[inline(always)]
-    pub fn push_seen(&mut self, client: u16, op: &OpView<'_>) -> Result<(), Memory>
+    pub fn push_borrowed(&mut self, client: u16, op: &OpView<'_>) -> Result<(), Memory>
         requires inside { client < length self.old.sessions }
         requires session { length (slice_index_or self.old.sessions client []) < MAX_CLIENT_OPS }
         requires all { count_of self.old.sessions < MAX_OPS }
@@ -242,14 +242,14 @@ impl History {
     {
         let alloc = *self.reserved.allocator();
         let place = client as usize;
-        let entry = entry_of_seen(
+        let entry = op_of_borrowed(
             alloc,
             &mut self.keys,
-            &mut self.foresight,
+            &mut self.prefetcher,
             &self.entries,
             op,
         )?;
-        self.heights.take_in(client, &entry);
+        self.maxima.take_in(client, &entry);
         self.entries.push(client, entry);
         self.reserved[place] = false;
         self.reservations -= 1;
@@ -337,7 +337,7 @@ impl History {
         ensures above { IsTrue result → AllAbove self.now.sessions }
         ensures not_above { ¬ IsTrue result → (name : OpName) × (earlier : OpName) × IsNotAbove self.now.sessions name earlier }
     {
-        self.heights.are_above()
+        self.maxima.are_above()
     }
 
     /// Like `are_puts_above`, for the puts of one client. False if there is no such client.
@@ -346,7 +346,7 @@ impl History {
         ensures above { IsTrue result → IsSessionAbove self.now.sessions client }
         ensures not_above { ¬ IsTrue result → client < length self.now.sessions → HasNotAbove self.now.sessions client }
     {
-        self.heights.is_above(client)
+        self.maxima.is_above(client)
     }
 
     /// Whether there is no operation.
@@ -388,22 +388,22 @@ impl History {
         let entry = self.entries.get(name)?;
         let key = self.keys.key(entry.key());
         match entry {
-            EntryRef::Put { value, version, .. } => Some(OpRef::Put {
+            StoredOpRef::Put { value, version, .. } => Some(OpRef::Put {
                 key,
                 value,
                 version,
             }),
-            EntryRef::Got { value, version, .. } => Some(OpRef::Got {
+            StoredOpRef::Got { value, version, .. } => Some(OpRef::Got {
                 key,
                 value,
                 version,
             }),
-            EntryRef::Sourced { value, version, .. } => Some(OpRef::Got {
+            StoredOpRef::Sourced { value, version, .. } => Some(OpRef::Got {
                 key,
                 value,
                 version,
             }),
-            EntryRef::Missed { .. } => Some(OpRef::Missed { key }),
+            StoredOpRef::Missed { .. } => Some(OpRef::Missed { key }),
         }
     }
 
@@ -421,7 +421,7 @@ impl History {
         ensures none { IfNone result ((v : ℕ) → ¬ PutsVersion self.now.sessions name v) }
     {
         match self.entries.get(name)? {
-            EntryRef::Put { version, .. } => Some(*version),
+            StoredOpRef::Put { version, .. } => Some(*version),
             _ => None,
         }
     }
@@ -433,8 +433,8 @@ impl History {
         ensures none { IfNone result ((v : ℕ) → ¬ GetsVersion self.now.sessions name v) }
     {
         match self.entries.get(name)? {
-            EntryRef::Got { version, .. } => Some(*version),
-            EntryRef::Sourced { version, .. } => Some(*version),
+            StoredOpRef::Got { version, .. } => Some(*version),
+            StoredOpRef::Sourced { version, .. } => Some(*version),
             _ => None,
         }
     }
@@ -467,53 +467,53 @@ impl History {
             return false;
         };
         match entry {
-            EntryRef::Sourced {
+            StoredOpRef::Sourced {
                 key,
                 put: source,
                 version,
                 ..
             } => self.entries.is_same_put(put, source.name, key, *version),
-            EntryRef::Got {
+            StoredOpRef::Got {
                 key,
                 value,
                 version,
             } => self.entries.is_put(put, key, value, *version),
-            EntryRef::Put { .. } | EntryRef::Missed { .. } => false,
+            StoredOpRef::Put { .. } | StoredOpRef::Missed { .. } => false,
         }
     }
 }
 
 /// The entry of an operation, whose key is added if it is new.
 #[inline(always)]
-fn entry_of(keys: &mut KeySet, foresight: &mut Foresight, entries: &Entries, op: Op) -> Entry
+fn entry_of(keys: &mut KeySet, prefetcher: &mut Prefetcher, entries: &Entries, op: Op) -> StoredOp
     requires sound { AreSound keys.old.keys entries.now.all }
     requires distinct { AreDistinct keys.old.keys }
     requires few { length keys.old.keys < MAX_OPS }
     requires room { 0 < keys.old.spare }
-    ensures told { told keys.new.keys entries.now.all result ≡ operation_of op }
+    ensures reported { reported keys.new.keys entries.now.all result ≡ operation_of op }
     ensures sound { IsSound keys.new.keys entries.now.all result }
     ensures numbered { IsNumbered entries.now.names result }
     ensures gains { GainsKey keys.old keys.new }
 {
-    let guess = foresight.next();
-    let known = known_number(keys, foresight, &op.as_key_view(), guess.key);
+    let candidate = prefetcher.next();
+    let known = known_number(keys, prefetcher, &op.as_key_view(), candidate.key);
     match op {
         Op::Put {
             key,
             value,
             version,
         } => {
-            foresight.note_put(version, entries.puts());
-            Entry::Put {
-                key: number_of(keys, foresight, key, known),
+            prefetcher.note_put(version, entries.puts());
+            StoredOp::Put {
+                key: number_of(keys, prefetcher, key, known),
                 value: Some(value),
                 version,
             }
         }
         Op::Del { key, version } => {
-            foresight.note_put(version, entries.puts());
-            Entry::Put {
-                key: number_of(keys, foresight, key, known),
+            prefetcher.note_put(version, entries.puts());
+            StoredOp::Put {
+                key: number_of(keys, prefetcher, key, known),
                 value: None,
                 version,
             }
@@ -523,50 +523,57 @@ fn entry_of(keys: &mut KeySet, foresight: &mut Foresight, entries: &Entries, op:
             value,
             version,
         } => {
-            let key = number_of(keys, foresight, key, known);
-            got_entry(foresight, entries, guess.put, key, Some(value), version)
+            let key = number_of(keys, prefetcher, key, known);
+            got_entry(
+                prefetcher,
+                entries,
+                candidate.put,
+                key,
+                Some(value),
+                version,
+            )
         }
         Op::Gone { key, version } => {
-            let key = number_of(keys, foresight, key, known);
-            got_entry(foresight, entries, guess.put, key, None, version)
+            let key = number_of(keys, prefetcher, key, known);
+            got_entry(prefetcher, entries, candidate.put, key, None, version)
         }
-        Op::Missed { key } => Entry::Missed {
-            key: number_of(keys, foresight, key, known),
+        Op::Missed { key } => StoredOp::Missed {
+            key: number_of(keys, prefetcher, key, known),
         },
     }
 }
 
 /// The entry of a borrowed operation, whose key is added if it is new. Adds nothing if memory runs out.
 #[inline(always)]
-fn entry_of_seen(
+fn op_of_borrowed(
     alloc: Global,
     keys: &mut KeySet,
-    foresight: &mut Foresight,
+    prefetcher: &mut Prefetcher,
     entries: &Entries,
     op: &OpView<'_>,
-) -> Result<Entry, Memory>
+) -> Result<StoredOp, Memory>
     requires sound { AreSound keys.old.keys entries.now.all }
     requires distinct { AreDistinct keys.old.keys }
     requires few { length keys.old.keys < MAX_OPS }
     requires room { 0 < keys.old.spare }
-    ensures told { IfOk result (λ entry. told keys.new.keys entries.now.all entry ≡ viewed op.now) }
+    ensures reported { IfOk result (λ entry. reported keys.new.keys entries.now.all entry ≡ viewed op.now) }
     ensures sound { IfOk result (λ entry. IsSound keys.new.keys entries.now.all entry) }
     ensures numbered { IfOk result (IsNumbered entries.now.names) }
     ensures gains { OnOk result (GainsKey keys.old keys.new) }
     ensures same { OnErr result (keys.new ≡ keys.old) }
 {
-    let guess = foresight.next();
-    let known = known_number(keys, foresight, op.key(), guess.key);
+    let candidate = prefetcher.next();
+    let known = known_number(keys, prefetcher, op.key(), candidate.key);
     match op {
         OpView::Put {
             key,
             value,
             version,
         } => {
-            let value = copy_of_seen(alloc, value.as_ref())?;
-            let key = number_of_seen(alloc, keys, foresight, key, known)?;
-            foresight.note_put(*version, entries.puts());
-            Ok(Entry::Put {
+            let value = copy_of_borrowed(alloc, value.as_ref())?;
+            let key = number_of_seen(alloc, keys, prefetcher, key, known)?;
+            prefetcher.note_put(*version, entries.puts());
+            Ok(StoredOp::Put {
                 key,
                 value,
                 version: *version,
@@ -579,16 +586,24 @@ fn entry_of_seen(
         } => {
             let value = value.as_ref();
             if let Some(key) = known {
-                return known_got_entry(alloc, foresight, entries, guess.put, key, value, *version);
+                return known_got_entry(
+                    alloc,
+                    prefetcher,
+                    entries,
+                    candidate.put,
+                    key,
+                    value,
+                    *version,
+                );
             }
             // (once the key is added nothing may fail; the copy is dropped where the put is found)
-            let value = copy_of_seen(alloc, value)?;
-            let key = number_of_seen(alloc, keys, foresight, key, None)?;
-            Ok(got_entry(foresight, entries, guess.put, key, value, *version))
+            let value = copy_of_borrowed(alloc, value)?;
+            let key = number_of_seen(alloc, keys, prefetcher, key, None)?;
+            Ok(got_entry(prefetcher, entries, candidate.put, key, value, *version))
         }
         OpView::Missed { key } => {
-            let key = number_of_seen(alloc, keys, foresight, key, known)?;
-            Ok(Entry::Missed { key })
+            let key = number_of_seen(alloc, keys, prefetcher, key, known)?;
+            Ok(StoredOp::Missed { key })
         }
     }
 }
@@ -597,32 +612,32 @@ fn entry_of_seen(
 /// not.
 #[inline(always)]
 fn got_entry(
-    foresight: &Foresight,
+    prefetcher: &Prefetcher,
     entries: &Entries,
-    guess: Option<u32>,
+    candidate: Option<u32>,
     key: u32,
     value: Option<Value>,
     version: Version,
-) -> Entry
-    ensures told { (keys : List (List ℕ)) → told keys entries.now.all result ≡ read (slice_index_or keys key []) value version }
+) -> StoredOp
+    ensures reported { (keys : List (List ℕ)) → reported keys entries.now.all result ≡ read (slice_index_or keys key []) value version }
     ensures key { key_number_of result ≡ key }
     ensures source { HasSource entries.now.all result }
     ensures numbered { IsNumbered entries.now.names result }
 {
     let source = match &value {
         Some(value) => source_of(
-            foresight,
+            prefetcher,
             entries,
-            guess,
+            candidate,
             key,
             Some(&value.as_view()),
             version,
         ),
-        None => source_of(foresight, entries, guess, key, None, version),
+        None => source_of(prefetcher, entries, candidate, key, None, version),
     };
     match source {
-        Some(put) => Entry::Sourced { key, put, version },
-        None => Entry::Got {
+        Some(put) => StoredOp::Sourced { key, put, version },
+        None => StoredOp::Got {
             key,
             value,
             version,
@@ -634,24 +649,24 @@ fn got_entry(
 #[inline(always)]
 fn known_got_entry(
     alloc: Global,
-    foresight: &Foresight,
+    prefetcher: &Prefetcher,
     entries: &Entries,
-    guess: Option<u32>,
+    candidate: Option<u32>,
     key: u32,
     value: Option<&ValueView<'_>>,
     version: Version,
-) -> Result<Entry, Memory>
-    ensures told { IfOk result (λ entry. (keys : List (List ℕ)) → told keys entries.now.all entry
+) -> Result<StoredOp, Memory>
+    ensures reported { IfOk result (λ entry. (keys : List (List ℕ)) → reported keys entries.now.all entry
         ≡ read (slice_index_or keys key []) (option_copied value.entry) version) }
     ensures key { IfOk result (λ entry. key_number_of entry ≡ key) }
     ensures source { IfOk result (HasSource entries.now.all) }
     ensures numbered { IfOk result (IsNumbered entries.now.names) }
 {
-    match source_of(foresight, entries, guess, key, value, version) {
-        Some(put) => Ok(Entry::Sourced { key, put, version }),
-        None => Ok(Entry::Got {
+    match source_of(prefetcher, entries, candidate, key, value, version) {
+        Some(put) => Ok(StoredOp::Sourced { key, put, version }),
+        None => Ok(StoredOp::Got {
             key,
-            value: copy_of_seen(alloc, value)?,
+            value: copy_of_borrowed(alloc, value)?,
             version,
         }),
     }
@@ -659,7 +674,7 @@ fn known_got_entry(
 
 /// A copy of a borrowed value, or that there is none.
 #[inline(always)]
-fn copy_of_seen(alloc: Global, value: Option<&ValueView<'_>>) -> Result<Option<Value>, Memory>
+fn copy_of_borrowed(alloc: Global, value: Option<&ValueView<'_>>) -> Result<Option<Value>, Memory>
     ensures { IfOk result (λ copy. copy ≡ option_copied value.entry) }
 {
     match value {
@@ -672,22 +687,22 @@ fn copy_of_seen(alloc: Global, value: Option<&ValueView<'_>>) -> Result<Option<V
 #[inline(always)]
 fn known_number(
     keys: &KeySet,
-    foresight: &Foresight,
+    prefetcher: &Prefetcher,
     key: &KeyView<'_>,
-    guess: Option<u32>,
+    candidate: Option<u32>,
 ) -> Option<u32>
     ensures { IfSome result (λ number. slice_get keys.now.keys number ≡ Some key.now) }
 {
-    match guess {
+    match candidate {
         Some(number) if keys.is_at(number, key) => Some(number),
-        _ => foresight.number_of(keys, key),
+        _ => prefetcher.number_of(keys, key),
     }
 }
 
 /// The number of a key: the known one, or else the one that a search finds, which adds a new key and stores the number
 /// as a candidate.
 #[inline(always)]
-fn number_of(keys: &mut KeySet, foresight: &mut Foresight, key: Key, known: Option<u32>) -> u32
+fn number_of(keys: &mut KeySet, prefetcher: &mut Prefetcher, key: Key, known: Option<u32>) -> u32
     requires known { IfSome known (λ number. slice_get keys.old.keys number ≡ Some key) }
     requires few { length keys.old.keys < MAX_OPS }
     requires room { 0 < keys.old.spare }
@@ -700,7 +715,7 @@ fn number_of(keys: &mut KeySet, foresight: &mut Foresight, key: Key, known: Opti
         return number;
     }
     let number = keys.number(key);
-    foresight.note_key(&keys.key(number).as_view(), number);
+    prefetcher.note_key(&keys.key(number).as_view(), number);
     number
 }
 
@@ -709,7 +724,7 @@ fn number_of(keys: &mut KeySet, foresight: &mut Foresight, key: Key, known: Opti
 fn number_of_seen(
     alloc: Global,
     keys: &mut KeySet,
-    foresight: &mut Foresight,
+    prefetcher: &mut Prefetcher,
     key: &KeyView<'_>,
     known: Option<u32>,
 ) -> Result<u32, Memory>
@@ -725,16 +740,16 @@ fn number_of_seen(
         return Ok(number);
     }
     let copied = key.to_key(alloc)?;
-    Ok(number_of(keys, foresight, copied, None))
+    Ok(number_of(keys, prefetcher, copied, None))
 }
 
 /// The put that a get of the key of that number returned, if a candidate is right: it wrote this to the key with this
 /// version.
 #[inline(always)]
 fn source_of(
-    foresight: &Foresight,
+    prefetcher: &Prefetcher,
     entries: &Entries,
-    guess: Option<u32>,
+    candidate: Option<u32>,
     key: u32,
     value: Option<&ValueView<'_>>,
     version: Version,
@@ -742,9 +757,9 @@ fn source_of(
     ensures put { IfSome result (λ put. item_at entries.now.all put.name ≡ Some (Put key (option_copied value.entry) version)) }
     ensures number { IfSome result (λ put. slice_get entries.now.names put.number ≡ Some put.name) }
 {
-    let number = match guess {
+    let number = match candidate {
         Some(number) => number,
-        None => foresight.put_of(version)?,
+        None => prefetcher.put_of(version)?,
     };
     entries.source(number, key, value, version)
 }

@@ -5,6 +5,7 @@
 #![tactic(auto)]
 
 mod blocks;
+mod candidates;
 mod clock;
 mod counted;
 mod dep;
@@ -12,18 +13,17 @@ mod entries;
 mod entry;
 mod failing;
 mod fault;
-mod foresight;
 mod format;
 mod gate;
-mod guesses;
-mod heights;
 mod history;
 mod key;
 mod key_set;
 mod limits;
+mod maxima;
 mod op;
 mod op_ref;
 mod op_view;
+mod prefetcher;
 mod put_record;
 mod refusal;
 mod selection;

@@ -9,7 +9,7 @@ use std::alloc::Global;
 
 /// An operation in a session, as a number that refers to the history's lists of puts, gets and keys.
 #[derive(Clone, Copy, Debug)]
-pub(crate) enum Slot {
+pub(crate) enum OpSlot {
     /// The put of that number.
     Put(u32),
     /// A get that returned what the put of that number wrote.

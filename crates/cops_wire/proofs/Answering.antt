@@ -9,13 +9,13 @@ use Rattle.cops_wire.specs.declared.fault.WireFault.{WireFault}
 use Rattle.cops_wire.specs.declared.fault.WireFault.TheVariants.{Memory}
 use Rattle.cops_wire.specs.declared.reading.ReadFault.TheVariants as faults
 use Rattle.cops_wire.specs.declared.decoding.Decoded.{Decoded}
-use Rattle.cops_wire.specs.Field.{Field, spelled_all}
+use Rattle.cops_wire.specs.Field.{Field, encoded_all}
 use Rattle.cops_wire.specs.Answer.{IsBytes, IsAnswer, Answers}
 use Rattle.cops_wire.specs.Grammar.{Grammar, Parts, grammar, fields_of}
 use Rattle.cops_wire.specs.Lengths.{IsGrammar}
 use Rattle.cops_wire.specs.Message.{parts}
 use Rattle.cops_wire.specs.Reading.{body_at, known_fields_at, contents_at, frame_at}
-use Rattle.cops_wire.specs.Records.{seen_message}
+use Rattle.cops_wire.specs.Records.{borrowed_message}
 use Rattle.cops_wire.specs.declared.record_view.RecordView.{RecordView}
 use Rattle.std.specs.Prelude.{IfSome}
 use Rattle.cops_wire.proofs.Rows.{fields_stop}
@@ -41,7 +41,7 @@ known_left None bytes left fits e = absurd cc
 known_left (Some fs) bytes left fits e =
     let s = fields_stop fs bytes (faults.BadField left) fits e in
     let left_is : left ≡ length s.rest = let e = s.fault_is in cc in
-    omega (arith, left_is, ap length s.split, length-append (spelled_all s.before s.contents) s.rest)
+    omega (arith, left_is, ap length s.split, length-append (encoded_all s.before s.contents) s.rest)
 
 -- the bytes left at a bad field are part of the bytes
 pub left_within : (g : Grammar) (kind : ℕ) (bytes : List ℕ) (left : ℕ) → IsBytes bytes → contents_at g kind bytes ≡ Err (faults.BadField left) → left ≤ length bytes
@@ -61,6 +61,6 @@ answers_only g ok bytes r fits h a is = Answers-weaker r (λ a. a ≡ frame_at g
 
 -- the bytes decode to the borrowed record
 pub seen_answers : (g : Grammar) (bytes text : List ℕ) (o : Option RecordView) → IsBytes bytes → frame_at g bytes ≡ body_at g text
-    → IfSome o (λ r. body_at g text ≡ Ok (parts (seen_message r), r.used)) → IfSome o (λ r. IsAnswer g bytes (Ok (parts (seen_message r), r.used)))
+    → IfSome o (λ r. body_at g text ≡ Ok (parts (borrowed_message r), r.used)) → IfSome o (λ r. IsAnswer g bytes (Ok (parts (borrowed_message r), r.used)))
 seen_answers g bytes text None fits reading h = tt
 seen_answers g bytes text (Some r) fits reading h = subst (IsAnswer g bytes) (reading ∙ h) (frame_answers g bytes fits)

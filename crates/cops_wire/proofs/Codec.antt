@@ -8,22 +8,22 @@ use Rattle.cops_types.specs.Format.{longest_body}
 use Rattle.cops_wire.specs.declared.fault.WireFault.{WireFault}
 use Rattle.cops_wire.specs.declared.fault.WireFault.TheVariants.{Memory, Short, BadField}
 use Rattle.cops_wire.specs.declared.message.Message.{Message}
-use Rattle.cops_wire.specs.Field.{u32, spelled_number}
+use Rattle.cops_wire.specs.Field.{u32, encoded_number}
 use Rattle.cops_wire.specs.Answer.{IsBytes, length_at, IsShort, BeginsWithKnown, IsAnswer, IsFromFields}
-use Rattle.cops_wire.specs.Grammar.{grammar, Parts, body, spelling}
+use Rattle.cops_wire.specs.Grammar.{grammar, Parts, body, encoding}
 use Rattle.cops_wire.specs.Legal.{IsMessage}
 use Rattle.cops_wire.specs.Message.{parts}
 use Rattle.cops_wire.specs.Reading.{frame_at}
 use Rattle.cops_wire.proofs.Fields.{wide}
-use Rattle.cops_wire.proofs.Frames.{short_again, bad_field_place, known_answer, answer_stays, body_fits, spelling_again, only_answer, frame_answers, one_spelling}
+use Rattle.cops_wire.proofs.Frames.{short_again, bad_field_place, known_answer, answer_stays, body_fits, encoding_again, only_answer, frame_answers, one_encoding}
 use Rattle.cops_wire.proofs.Messages.{parts-same}
 use Rattle.cops_wire.proofs.Answering.{grammar_ok, places_fit}
 
 -- No encoding of a message is a prefix of another's, and each encodes only one message.
 pub one_message : (format : Format) (m n : Message) (x y : List ℕ) → IsMessage (grammar format) (parts m) → IsMessage (grammar format) (parts n)
-    → spelling (grammar format) (parts m) ++ x ≡ spelling (grammar format) (parts n) ++ y → (m ≡ n) × (x ≡ y)
+    → encoding (grammar format) (parts m) ++ x ≡ encoding (grammar format) (parts n) ++ y → (m ≡ n) × (x ≡ y)
 one_message format m n x y legal_m legal_n e =
-    let same = one_spelling (grammar format) (grammar_ok format) (parts m) (parts n) x y legal_m legal_n e in
+    let same = one_encoding (grammar format) (grammar_ok format) (parts m) (parts n) x y legal_m legal_n e in
     (parts-same m n same.0, same.1)
 
 -- The result of decoding is what reading gives.
@@ -39,31 +39,31 @@ pub same_answer : (format : Format) (bytes : List ℕ) → IsBytes bytes → (a 
 same_answer format bytes fits a b is_a is_b = answer_is_read format bytes fits a is_a ∙ sym (answer_is_read format bytes fits b is_b)
 
 -- An encoding decodes to its message, whatever follows it.
-pub spelling_answered : (format : Format) (p : Parts) (rest : List ℕ) → IsMessage (grammar format) p
-    → IsAnswer (grammar format) (spelling (grammar format) p ++ rest) (Ok (p, length (spelling (grammar format) p)))
-spelling_answered format p rest legal = record { message = legal; rest = rest; front = refl; length_is = refl }
+pub encoding_answered : (format : Format) (p : Parts) (rest : List ℕ) → IsMessage (grammar format) p
+    → IsAnswer (grammar format) (encoding (grammar format) p ++ rest) (Ok (p, length (encoding (grammar format) p)))
+encoding_answered format p rest legal = record { message = legal; rest = rest; front = refl; length_is = refl }
 
 -- Reading an encoding gives its message, whatever follows it.
-pub spelling_read : (format : Format) (p : Parts) (rest : List ℕ) → IsMessage (grammar format) p
-    → frame_at (grammar format) (spelling (grammar format) p ++ rest) ≡ Ok (p, length (spelling (grammar format) p))
-spelling_read format p rest legal = spelling_again (grammar format) (grammar_ok format) p rest legal
+pub encoding_read : (format : Format) (p : Parts) (rest : List ℕ) → IsMessage (grammar format) p
+    → frame_at (grammar format) (encoding (grammar format) p ++ rest) ≡ Ok (p, length (encoding (grammar format) p))
+encoding_read format p rest legal = encoding_again (grammar format) (grammar_ok format) p rest legal
 
 -- If bytes decode to a message, they are the message's encoding and then the bytes after the used ones.
 pub answer_splits : (format : Format) (bytes : List ℕ) (p : Parts) (used : ℕ) → IsAnswer (grammar format) bytes (Ok (p, used))
-    → IsMessage (grammar format) p × (used ≡ length (spelling (grammar format) p)) × (bytes ≡ spelling (grammar format) p ++ drop used bytes)
+    → IsMessage (grammar format) p × (used ≡ length (encoding (grammar format) p)) × (bytes ≡ encoding (grammar format) p ++ drop used bytes)
 answer_splits format bytes p used h =
-    let rest : drop used bytes ≡ h.rest = ap (drop used) h.front ∙ drop_at (spelling (grammar format) p) h.rest used (sym h.length_is) in
-    (h.message, h.length_is, h.front ∙ ap (λ (t : List ℕ). spelling (grammar format) p ++ t) (sym rest))
+    let rest : drop used bytes ≡ h.rest = ap (drop used) h.front ∙ drop_at (encoding (grammar format) p) h.rest used (sym h.length_is) in
+    (h.message, h.length_is, h.front ∙ ap (λ (t : List ℕ). encoding (grammar format) p ++ t) (sym rest))
 
 -- the length of an encoding
-pub length-spelling : (format : Format) (p : Parts) → length (spelling (grammar format) p) ≡ 4 + length (body (grammar format) p)
-length-spelling format p = length-append (spelled_number u32 (length (body (grammar format) p))) (body (grammar format) p) ∙ ap (λ (n : ℕ). n + length (body (grammar format) p)) ((wide u32).len (length (body (grammar format) p)))
+pub length-encoding : (format : Format) (p : Parts) → length (encoding (grammar format) p) ≡ 4 + length (body (grammar format) p)
+length-encoding format p = length-append (encoded_number u32 (length (body (grammar format) p))) (body (grammar format) p) ∙ ap (λ (n : ℕ). n + length (body (grammar format) p)) ((wide u32).len (length (body (grammar format) p)))
 
 -- An encoding is longer than 4 bytes and no longer than a frame may be.
-pub spelling_bounds : (format : Format) (p : Parts) → IsMessage (grammar format) p
-    → (4 < length (spelling (grammar format) p)) × (length (spelling (grammar format) p) ≤ 4 + longest_body format)
-spelling_bounds format p legal =
-    let len = length-spelling format p in
+pub encoding_bounds : (format : Format) (p : Parts) → IsMessage (grammar format) p
+    → (4 < length (encoding (grammar format) p)) × (length (encoding (grammar format) p) ≤ 4 + longest_body format)
+encoding_bounds format p legal =
+    let len = length-encoding format p in
     let fits = body_fits (grammar format) (grammar_ok format) p legal in
     (omega (arith, len), omega (arith, len, fits))
 
@@ -72,14 +72,14 @@ not_empty [] ne = absurd (ne refl)
 not_empty (b ∷ bs) ne = omega arith
 
 -- A proper prefix of an encoding is Short.
-pub front_is_short : (format : Format) (p : Parts) (x y : List ℕ) → IsMessage (grammar format) p → spelling (grammar format) p ≡ x ++ y → y ≢ [] → IsShort (grammar format) x
-front_is_short format p x y legal e more =
+pub prefix_is_short : (format : Format) (p : Parts) (x y : List ℕ) → IsMessage (grammar format) p → encoding (grammar format) p ≡ x ++ y → y ≢ [] → IsShort (grammar format) x
+prefix_is_short format p x y legal e more =
     let text : List ℕ = body (grammar format) p in
-    let head : List ℕ = spelled_number u32 (length text) in
+    let head : List ℕ = encoded_number u32 (length text) in
     let fits : length text ≤ longest_body format = body_fits (grammar format) (grammar_ok format) p legal in
     let size : length head ≡ 4 = (wide u32).len (length text) in
     let some : 0 < length y = not_empty y more in
-    let total : length x + length y ≡ 4 + length text = sym (length-append x y) ∙ ap length (sym e) ∙ length-spelling format p in
+    let total : length x + length y ≡ 4 + length text = sym (length-append x y) ∙ ap length (sym e) ∙ length-encoding format p in
     elim (cases_lt (length x) 4) [
       | inl lt ↦ inl lt
       | inr four ↦
@@ -103,20 +103,20 @@ pub short_read : (format : Format) (bytes : List ℕ) → IsShort (grammar forma
 short_read format bytes h = short_again (grammar format) bytes h
 
 -- Reading a proper prefix of an encoding gives Short.
-pub front_read : (format : Format) (p : Parts) (x y : List ℕ) → IsMessage (grammar format) p → spelling (grammar format) p ≡ x ++ y → y ≢ [] → frame_at (grammar format) x ≡ Err Short
-front_read format p x y legal e more = short_read format x (front_is_short format p x y legal e more)
+pub prefix_read : (format : Format) (p : Parts) (x y : List ℕ) → IsMessage (grammar format) p → encoding (grammar format) p ≡ x ++ y → y ≢ [] → frame_at (grammar format) x ≡ Err Short
+prefix_read format p x y legal e more = short_read format x (prefix_is_short format p x y legal e more)
 
 -- If reading gives a message, the bytes are its encoding and then the bytes after the used ones.
 pub read_splits : (format : Format) (bytes : List ℕ) (p : Parts) (used : ℕ) → IsBytes bytes → frame_at (grammar format) bytes ≡ Ok (p, used)
-    → IsMessage (grammar format) p × (used ≡ length (spelling (grammar format) p)) × (bytes ≡ spelling (grammar format) p ++ drop used bytes)
+    → IsMessage (grammar format) p × (used ≡ length (encoding (grammar format) p)) × (bytes ≡ encoding (grammar format) p ++ drop used bytes)
 read_splits format bytes p used fits e = answer_splits format bytes p used (read_is_answer format bytes fits (Ok (p, used)) (sym e))
 
 -- The used bytes are within the bytes, and their number is a frame's length.
 pub used_within : (format : Format) (bytes : List ℕ) (p : Parts) (used : ℕ) → IsAnswer (grammar format) bytes (Ok (p, used))
     → (4 < used) × (used ≤ length bytes) × (used ≤ 4 + longest_body format)
 used_within format bytes p used h =
-    let bounds = spelling_bounds format p h.message in
-    let all : length bytes ≡ length (spelling (grammar format) p) + length h.rest = ap length h.front ∙ length-append (spelling (grammar format) p) h.rest in
+    let bounds = encoding_bounds format p h.message in
+    let all : length bytes ≡ length (encoding (grammar format) p) + length h.rest = ap length h.front ∙ length-append (encoding (grammar format) p) h.rest in
     (omega (arith, h.length_is, bounds.0), omega (arith, h.length_is, all), omega (arith, h.length_is, bounds.1))
 
 -- A bad field's offset is within the frame.

@@ -7,14 +7,14 @@ use Rattle.std.proofs.lemmas.List.{take_at, drop_at, take-append-drop, length-ap
 use Rattle.cops_wire.specs.declared.fault.WireFault.{WireFault}
 use Rattle.cops_wire.specs.declared.fault.WireFault.TheVariants.{Memory, Short, BadLength, UnknownKind, BadField, TrailingBytes}
 use Rattle.cops_wire.specs.declared.reading.ReadFault.TheVariants as faults
-use Rattle.cops_wire.specs.Field.{Field, Content, u32, spelled_number, spelled_all}
+use Rattle.cops_wire.specs.Field.{Field, Content, u32, encoded_number, encoded_all}
 use Rattle.cops_wire.specs.Answer.{IsBytes, length_at, IsShort, HasBadLength, BeginsWithFrame, BeginsWithKnown, BeginsWithTaking, NoneBegins, HasBadField, HasTrailingBytes, HasMessage, IsAnswer, IsFromFields}
 use Rattle.cops_wire.specs.Legal.{AllLegal, IsMessage}
-use Rattle.cops_wire.specs.Grammar.{Grammar, Parts, fields_of, body, spelling}
+use Rattle.cops_wire.specs.Grammar.{Grammar, Parts, fields_of, body, encoding}
 use Rattle.cops_wire.specs.Lengths.{IsGrammar}
 use Rattle.cops_wire.specs.Reading.{field_at, fields_at, known_fields_at, contents_at, whole, body_at, frame_at, comes_to_memory, body_takes}
 use Rattle.cops_wire.proofs.Fields.{IsBytes-take, IsBytes-drop, IsBytes-left, IsBytes-right, wide, field_takes, field_again}
-use Rattle.cops_wire.proofs.Rows.{Read, never_unknown, row_fits, length-spelled_all, fields_take, fields_again, fields_stop, fields_stop_again, ComesTo, fields_come}
+use Rattle.cops_wire.proofs.Rows.{Read, never_unknown, row_fits, length-encoded_all, fields_take, fields_again, fields_stop, fields_stop_again, ComesTo, fields_come}
 
 abbrev Answer : Type 0
 Answer = Result (Parts × ℕ) WireFault
@@ -40,14 +40,14 @@ module _ (g : Grammar) (bytes : List ℕ) (kind : ℕ) (fields : List ℕ) (fram
   message_found fs cs known read =
       let t = fields_take fs fields (cs, []) fits read in
       let p : Parts = record { kind = kind; contents = cs } in
-      let all : spelled_all fs cs ≡ fields = sym (append-nil (spelled_all fs cs)) ∙ sym t.0.parts in
-      let body_is : body g p ≡ kind ∷ fields = ap (λ (o : Option (List Field)). kind ∷ spelled_all (unwrap_or o []) cs) known ∙ ap (λ (t : List ℕ). kind ∷ t) all in
-      let spelling_is : spelling g p ≡ spelled_number u32 (length (kind ∷ fields)) ++ (kind ∷ fields) = ap (λ (b : List ℕ). spelled_number u32 (length b) ++ b) body_is in
+      let all : encoded_all fs cs ≡ fields = sym (append-nil (encoded_all fs cs)) ∙ sym t.0.parts in
+      let body_is : body g p ≡ kind ∷ fields = ap (λ (o : Option (List Field)). kind ∷ encoded_all (unwrap_or o []) cs) known ∙ ap (λ (t : List ℕ). kind ∷ t) all in
+      let encoding_is : encoding g p ≡ encoded_number u32 (length (kind ∷ fields)) ++ (kind ∷ fields) = ap (λ (b : List ℕ). encoded_number u32 (length b) ++ b) body_is in
       record {
         message = message_from g p fs known t.1;
         rest = frame.rest;
-        front = frame.front ∙ ap (λ (s : List ℕ). s ++ frame.rest) (sym spelling_is);
-        length_is = omega (arith, ap length spelling_is, length-append (spelled_number u32 (length (kind ∷ fields))) (kind ∷ fields), (wide u32).len (length (kind ∷ fields)));
+        front = frame.front ∙ ap (λ (s : List ℕ). s ++ frame.rest) (sym encoding_is);
+        length_is = omega (arith, ap length encoding_is, length-append (encoded_number u32 (length (kind ∷ fields))) (kind ∷ fields), (wide u32).len (length (kind ∷ fields)));
       }
 
   read_answers : (fs : List Field) (r : Read) → fields_of g kind ≡ Some fs → fields_at fs fields ≡ r → IsAnswer g bytes (whole (suc (length fields)) kind r)
@@ -73,14 +73,14 @@ module _ (g : Grammar) (bytes : List ℕ) (kind : ℕ) (fields : List ℕ) (fram
         rest = s.rest;
         split = s.split;
         bad = none_begins s.field s.rest s.none;
-        place = omega (arith, left_is, ap length s.split, length-append (spelled_all s.before s.contents) s.rest);
+        place = omega (arith, left_is, ap length s.split, length-append (encoded_all s.before s.contents) s.rest);
       }
 
   known_answers : (o : Option (List Field)) → fields_of g kind ≡ o → IsAnswer g bytes (whole (suc (length fields)) kind (known_fields_at o fields))
   known_answers None e = record { kind = kind; fields = fields; frame = frame; unknown = e }
   known_answers (Some fs) e = read_answers fs (fields_at fs fields) e refl
 
-body_answers : (g : Grammar) (bytes text rest : List ℕ) → IsBytes text → bytes ≡ (spelled_number u32 (length text) ++ text) ++ rest → 0 < length text → length text ≤ g.longest → IsAnswer g bytes (body_at g text)
+body_answers : (g : Grammar) (bytes text rest : List ℕ) → IsBytes text → bytes ≡ (encoded_number u32 (length text) ++ text) ++ rest → 0 < length text → length text ≤ g.longest → IsAnswer g bytes (body_at g text)
 body_answers g bytes [] rest fits front some below = absurd (omega arith)
 body_answers g bytes (kind ∷ fields) rest fits front some below =
     let frame : BeginsWithFrame g bytes kind fields = record { rest = rest; front = front; fits = below } in
@@ -88,17 +88,17 @@ body_answers g bytes (kind ∷ fields) rest fits front some below =
 
 -- the bytes begin with a frame
 frame_parts : (bytes : List ℕ) → IsBytes bytes → 4 ≤ length bytes → 4 + length_at bytes ≤ length bytes
-    → let text = take (length_at bytes) (drop 4 bytes) in (length text ≡ length_at bytes) × (bytes ≡ (spelled_number u32 (length text) ++ text) ++ drop (length_at bytes) (drop 4 bytes))
+    → let text = take (length_at bytes) (drop 4 bytes) in (length text ≡ length_at bytes) × (bytes ≡ (encoded_number u32 (length text) ++ text) ++ drop (length_at bytes) (drop 4 bytes))
 frame_parts bytes fits four long =
     let len : ℕ = length_at bytes in
     let text : List ℕ = take len (drop 4 bytes) in
     let rest : List ℕ = drop len (drop 4 bytes) in
     let text_len : length text ≡ len = omega (arith, length-take len (drop 4 bytes), length-drop 4 bytes) in
-    let head : spelled_number u32 len ≡ take 4 bytes = (wide u32).back (take 4 bytes) (omega (arith, length-take 4 bytes)) (IsBytes-take 4 bytes fits) in
-    let head' : spelled_number u32 (length text) ≡ take 4 bytes = ap (spelled_number u32) text_len ∙ head in
+    let head : encoded_number u32 len ≡ take 4 bytes = (wide u32).back (take 4 bytes) (omega (arith, length-take 4 bytes)) (IsBytes-take 4 bytes fits) in
+    let head' : encoded_number u32 (length text) ≡ take 4 bytes = ap (encoded_number u32) text_len ∙ head in
     let tail : text ++ rest ≡ drop 4 bytes = take-append-drop len (drop 4 bytes) in
-    let joined : (spelled_number u32 (length text) ++ text) ++ rest ≡ bytes =
-    append_assoc (spelled_number u32 (length text)) text rest
+    let joined : (encoded_number u32 (length text) ++ text) ++ rest ≡ bytes =
+    append_assoc (encoded_number u32 (length text)) text rest
     ∙ ap (λ (t : List ℕ). t ++ (text ++ rest)) head'
     ∙ ap (λ (t : List ℕ). take 4 bytes ++ t) tail
     ∙ take-append-drop 4 bytes in
@@ -111,10 +111,10 @@ known_come : (o : Option (List Field)) (fields : List ℕ) → IsBytes fields �
 known_come None fields fits h = absurd cc
 known_come (Some fs) fields fits h = (fs, refl, fields_come fs fields fits h)
 
-taking_front : (g : Grammar) (bytes text rest : List ℕ) → IsBytes text → bytes ≡ (spelled_number u32 (length text) ++ text) ++ rest → length text ≤ g.longest → IsTrue (body_takes g text)
+taking_prefix : (g : Grammar) (bytes text rest : List ℕ) → IsBytes text → bytes ≡ (encoded_number u32 (length text) ++ text) ++ rest → length text ≤ g.longest → IsTrue (body_takes g text)
     → BeginsWithTaking g bytes
-taking_front g bytes [] rest fits front below h = absurd cc
-taking_front g bytes (kind ∷ fields) rest fits front below h =
+taking_prefix g bytes [] rest fits front below h = absurd cc
+taking_prefix g bytes (kind ∷ fields) rest fits front below h =
     let k = known_come (fields_of g kind) fields (IsBytes-right (kind ∷ []) fields fits) h in
     let s = k.2 in
     record {
@@ -141,7 +141,7 @@ pub taking_frame : (g : Grammar) (bytes : List ℕ) → IsBytes bytes → 4 ≤ 
     → IsTrue (body_takes g (take (length_at bytes) (drop 4 bytes))) → BeginsWithTaking g bytes
 taking_frame g bytes fits four below long h =
     let parts = frame_parts bytes fits four long in
-    taking_front g bytes (take (length_at bytes) (drop 4 bytes)) (drop (length_at bytes) (drop 4 bytes)) (IsBytes-take (length_at bytes) (drop 4 bytes) (IsBytes-drop 4 bytes fits)) parts.1 (omega (arith, parts.0)) h
+    taking_prefix g bytes (take (length_at bytes) (drop 4 bytes)) (drop (length_at bytes) (drop 4 bytes)) (IsBytes-take (length_at bytes) (drop 4 bytes) (IsBytes-drop 4 bytes fits)) parts.1 (omega (arith, parts.0)) h
 
 -- a kind with such a field is a kind of the grammar
 pub taking_known : (g : Grammar) (bytes : List ℕ) → BeginsWithTaking g bytes → BeginsWithKnown g bytes
@@ -166,10 +166,10 @@ frame_answers g bytes fits =
 
 -- ---- the result is unique
 
-whole_frame : (g : Grammar) → IsGrammar g → (text rest : List ℕ) → 0 < length text → length text ≤ g.longest → frame_at g ((spelled_number u32 (length text) ++ text) ++ rest) ≡ body_at g text
+whole_frame : (g : Grammar) → IsGrammar g → (text rest : List ℕ) → 0 < length text → length text ≤ g.longest → frame_at g ((encoded_number u32 (length text) ++ text) ++ rest) ≡ body_at g text
 unfolding frame_at
 whole_frame g ok text rest some below =
-    let head : List ℕ = spelled_number u32 (length text) in
+    let head : List ℕ = encoded_number u32 (length text) in
     let bytes : List ℕ = (head ++ text) ++ rest in
     let regrouped : bytes ≡ head ++ (text ++ rest) = append_assoc head text rest in
     let size : length head ≡ 4 = (wide u32).len (length text) in
@@ -192,25 +192,25 @@ framed g ok bytes kind fields frame = ap (frame_at g) frame.front ∙ whole_fram
 pub body_fits : (g : Grammar) → IsGrammar g → (p : Parts) → IsMessage g p → length (body g p) ≤ g.longest
 body_fits g ok p m =
     let k = match_known (fields_of g p.kind) p.contents m in
-    let fields_are : spelled_all (unwrap_or (fields_of g p.kind) []) p.contents ≡ spelled_all k.0 p.contents = ap (λ (o : Option (List Field)). spelled_all (unwrap_or o []) p.contents) k.1 in
+    let fields_are : encoded_all (unwrap_or (fields_of g p.kind) []) p.contents ≡ encoded_all k.0 p.contents = ap (λ (o : Option (List Field)). encoded_all (unwrap_or o []) p.contents) k.1 in
     let row = row_fits g.longest p.kind g.kinds k.0 ok.1 k.1 in
-    omega (arith, ap length fields_are, length-spelled_all k.0 p.contents k.2, row)
+    omega (arith, ap length fields_are, length-encoded_all k.0 p.contents k.2, row)
 
 known : (g : Grammar) (kind : ℕ) (fields : List ℕ) (o : Option (List Field)) → fields_of g kind ≡ o → contents_at g kind fields ≡ known_fields_at o fields
 known g kind fields o e = ap (λ (p : Option (List Field)). known_fields_at p fields) e
 
-pub spelling_again : (g : Grammar) → IsGrammar g → (p : Parts) (rest : List ℕ) → IsMessage g p → frame_at g (spelling g p ++ rest) ≡ Ok (p, length (spelling g p))
-spelling_again g ok p rest m =
-    let fields : List ℕ = spelled_all (unwrap_or (fields_of g p.kind) []) p.contents in
+pub encoding_again : (g : Grammar) → IsGrammar g → (p : Parts) (rest : List ℕ) → IsMessage g p → frame_at g (encoding g p ++ rest) ≡ Ok (p, length (encoding g p))
+encoding_again g ok p rest m =
+    let fields : List ℕ = encoded_all (unwrap_or (fields_of g p.kind) []) p.contents in
     let k = match_known (fields_of g p.kind) p.contents m in
-    let fields_are : fields ≡ spelled_all k.0 p.contents = ap (λ (o : Option (List Field)). spelled_all (unwrap_or o []) p.contents) k.1 in
+    let fields_are : fields ≡ encoded_all k.0 p.contents = ap (λ (o : Option (List Field)). encoded_all (unwrap_or o []) p.contents) k.1 in
     let read : contents_at g p.kind fields ≡ Ok (p.contents, []) =
     known g p.kind fields (Some k.0) k.1
-    ∙ ap (fields_at k.0) (fields_are ∙ sym (append-nil (spelled_all k.0 p.contents)))
+    ∙ ap (fields_at k.0) (fields_are ∙ sym (append-nil (encoded_all k.0 p.contents)))
     ∙ fields_again k.0 p.contents [] k.2 in
     whole_frame g ok (p.kind ∷ fields) rest (omega arith) (body_fits g ok p m)
     ∙ ap (whole (suc (length fields)) p.kind) read
-    ∙ ap (λ (n : ℕ). Ok (p, n)) (let size : 4 + suc (length fields) ≡ length (spelling g p) = omega (arith, length-append (spelled_number u32 (length (body g p))) (body g p), (wide u32).len (length (body g p))) in size)
+    ∙ ap (λ (n : ℕ). Ok (p, n)) (let size : 4 + suc (length fields) ≡ length (encoding g p) = omega (arith, length-append (encoded_number u32 (length (body g p))) (body g p), (wide u32).len (length (body g p))) in size)
 
 field_none : (field : Field) (rest : List ℕ) (o : Option (Content × List ℕ)) → IsBytes rest → NoneBegins field rest → field_at field rest ≡ o → o ≡ None
 field_none field rest None fits none e = refl
@@ -224,8 +224,8 @@ trailing len kind cs (b ∷ bs) some = refl
 
 fields_fit : (g : Grammar) (bytes : List ℕ) (kind : ℕ) (fields : List ℕ) → IsBytes bytes → BeginsWithFrame g bytes kind fields → IsBytes fields
 fields_fit g bytes kind fields fits frame =
-    let all : IsBytes ((spelled_number u32 (length (kind ∷ fields)) ++ (kind ∷ fields)) ++ frame.rest) = subst IsBytes frame.front fits in
-    let text : IsBytes (kind ∷ fields) = IsBytes-right (spelled_number u32 (length (kind ∷ fields))) (kind ∷ fields) (IsBytes-left (spelled_number u32 (length (kind ∷ fields)) ++ (kind ∷ fields)) frame.rest all) in
+    let all : IsBytes ((encoded_number u32 (length (kind ∷ fields)) ++ (kind ∷ fields)) ++ frame.rest) = subst IsBytes frame.front fits in
+    let text : IsBytes (kind ∷ fields) = IsBytes-right (encoded_number u32 (length (kind ∷ fields))) (kind ∷ fields) (IsBytes-left (encoded_number u32 (length (kind ∷ fields)) ++ (kind ∷ fields)) frame.rest all) in
     IsBytes-right (kind ∷ []) fields text
 
 -- reading short bytes gives Short
@@ -251,13 +251,13 @@ bad_length_again g bytes h =
 bad_field_again : (g : Grammar) → IsGrammar g → (bytes : List ℕ) (offset : ℕ) → IsBytes bytes → HasBadField g bytes offset → frame_at g bytes ≡ Err (BadField offset)
 bad_field_again g ok bytes offset fits h =
     let fit : IsBytes h.fields = fields_fit g bytes h.kind h.fields fits h.frame in
-    let rest_fit : IsBytes h.rest = IsBytes-right (spelled_all h.before h.contents) h.rest (subst IsBytes h.split fit) in
+    let rest_fit : IsBytes h.rest = IsBytes-right (encoded_all h.before h.contents) h.rest (subst IsBytes h.split fit) in
     let none : field_at h.field h.rest ≡ None = field_none h.field h.rest (field_at h.field h.rest) rest_fit h.bad refl in
     let read : contents_at g h.kind h.fields ≡ Err (faults.BadField (length h.rest)) =
     known g h.kind h.fields (Some (h.before ++ h.field ∷ h.after)) h.known
     ∙ ap (fields_at (h.before ++ h.field ∷ h.after)) h.split
     ∙ fields_stop_again h.before h.field h.after h.contents h.rest h.legal none in
-    let place : 4 + suc (length h.fields) - length h.rest ≡ offset = omega (arith, h.place, ap length h.split, length-append (spelled_all h.before h.contents) h.rest) in
+    let place : 4 + suc (length h.fields) - length h.rest ≡ offset = omega (arith, h.place, ap length h.split, length-append (encoded_all h.before h.contents) h.rest) in
     framed g ok bytes h.kind h.fields h.frame
     ∙ ap (whole (suc (length h.fields)) h.kind) read
     ∙ ap (λ (n : ℕ). Err (BadField n)) place
@@ -271,7 +271,7 @@ trailing_again g ok bytes h =
     ∙ trailing (suc (length h.fields)) h.kind h.contents h.rest h.more
 
 pub only_answer : (g : Grammar) → IsGrammar g → (bytes : List ℕ) → IsBytes bytes → (a : Answer) → IsAnswer g bytes a → frame_at g bytes ≡ a
-only_answer g ok bytes fits (Ok x) h = ap (frame_at g) h.front ∙ spelling_again g ok x.0 h.rest h.message ∙ ap (λ (n : ℕ). Ok (x.0, n)) (sym h.length_is)
+only_answer g ok bytes fits (Ok x) h = ap (frame_at g) h.front ∙ encoding_again g ok x.0 h.rest h.message ∙ ap (λ (n : ℕ). Ok (x.0, n)) (sym h.length_is)
 only_answer g ok bytes fits (Err Memory) h = absurd h
 only_answer g ok bytes fits (Err Short) h = short_again g bytes h
 only_answer g ok bytes fits (Err BadLength) h = bad_length_again g bytes h
@@ -281,19 +281,19 @@ only_answer g ok bytes fits (Err (BadField offset)) h = bad_field_again g ok byt
 only_answer g ok bytes fits (Err TrailingBytes) h = trailing_again g ok bytes h
 
 -- no encoding is a prefix of another
-pub one_spelling : (g : Grammar) → IsGrammar g → (p q : Parts) (x y : List ℕ) → IsMessage g p → IsMessage g q → spelling g p ++ x ≡ spelling g q ++ y → (p ≡ q) × (x ≡ y)
-one_spelling g ok p q x y m n e =
-    let a : Answer = Ok (p, length (spelling g p)) in
-    let b : Answer = Ok (q, length (spelling g q)) in
-    let both : a ≡ b = sym (spelling_again g ok p x m) ∙ ap (frame_at g) e ∙ spelling_again g ok q y n in
-    let same : p ≡ q = let pairs : (p, length (spelling g p)) ≡ (q, length (spelling g q)) = cc in ap (λ (z : Parts × ℕ). z.0) pairs in
-    (same, append_cancel_left (spelling g p) x y (e ∙ ap (λ (z : Parts). spelling g z ++ y) (sym same)))
+pub one_encoding : (g : Grammar) → IsGrammar g → (p q : Parts) (x y : List ℕ) → IsMessage g p → IsMessage g q → encoding g p ++ x ≡ encoding g q ++ y → (p ≡ q) × (x ≡ y)
+one_encoding g ok p q x y m n e =
+    let a : Answer = Ok (p, length (encoding g p)) in
+    let b : Answer = Ok (q, length (encoding g q)) in
+    let both : a ≡ b = sym (encoding_again g ok p x m) ∙ ap (frame_at g) e ∙ encoding_again g ok q y n in
+    let same : p ≡ q = let pairs : (p, length (encoding g p)) ≡ (q, length (encoding g q)) = cc in ap (λ (z : Parts × ℕ). z.0) pairs in
+    (same, append_cancel_left (encoding g p) x y (e ∙ ap (λ (z : Parts). encoding g z ++ y) (sym same)))
 
 -- ---- more bytes change no result except Short
 
 frame_grows : (g : Grammar) (bytes more : List ℕ) (kind : ℕ) (fields : List ℕ) → BeginsWithFrame g bytes kind fields → BeginsWithFrame g (bytes ++ more) kind fields
 frame_grows g bytes more kind fields frame =
-    let head : List ℕ = spelled_number u32 (length (kind ∷ fields)) ++ (kind ∷ fields) in
+    let head : List ℕ = encoded_number u32 (length (kind ∷ fields)) ++ (kind ∷ fields) in
     record {
       rest = frame.rest ++ more;
       front = ap (λ (t : List ℕ). t ++ more) frame.front ∙ append_assoc head frame.rest more;
@@ -304,7 +304,7 @@ length_at_grows : (bytes more : List ℕ) → 4 ≤ length bytes → length_at (
 length_at_grows bytes more four = ap (from_be_bytes w32) (take-append-le 4 bytes more four)
 
 pub answer_stays : (g : Grammar) (bytes more : List ℕ) (a : Answer) → a ≢ Err Short → IsAnswer g bytes a → IsAnswer g (bytes ++ more) a
-answer_stays g bytes more (Ok x) long h = record { message = h.message; rest = h.rest ++ more; front = ap (λ (t : List ℕ). t ++ more) h.front ∙ append_assoc (spelling g x.0) h.rest more; length_is = h.length_is }
+answer_stays g bytes more (Ok x) long h = record { message = h.message; rest = h.rest ++ more; front = ap (λ (t : List ℕ). t ++ more) h.front ∙ append_assoc (encoding g x.0) h.rest more; length_is = h.length_is }
 answer_stays g bytes more (Err Memory) long h = h
 answer_stays g bytes more (Err Short) long h = absurd (long refl)
 answer_stays g bytes more (Err BadLength) long h =
@@ -349,7 +349,7 @@ whole_not_short len kind (Err (faults.BadField left)) e = absurd cc
 -- a bad field's place is within the frame
 pub bad_field_place : (g : Grammar) (bytes : List ℕ) (offset : ℕ) → HasBadField g bytes offset → (4 < offset) × (offset ≤ 4 + g.longest)
 bad_field_place g bytes offset h =
-    let split : length h.fields ≡ length (spelled_all h.before h.contents) + length h.rest = ap length h.split ∙ length-append (spelled_all h.before h.contents) h.rest in
+    let split : length h.fields ≡ length (encoded_all h.before h.contents) + length h.rest = ap length h.split ∙ length-append (encoded_all h.before h.contents) h.rest in
     let fits : length (h.kind ∷ h.fields) ≤ g.longest = h.frame.fits in
     (omega (arith, h.place), omega (arith, h.place, split, fits))
 
@@ -359,10 +359,10 @@ frame_not_short g ok bytes kind fields frame short =
     whole_not_short (suc (length fields)) kind (contents_at g kind fields) (sym (framed g ok bytes kind fields frame) ∙ short_again g bytes short)
 
 -- a message is not short
-pub spelling_not_short : (g : Grammar) → IsGrammar g → (p : Parts) (rest : List ℕ) → IsMessage g p → IsShort g (spelling g p ++ rest) → ⊥
-spelling_not_short g ok p rest legal short =
-    let read = spelling_again g ok p rest legal in
-    let none = short_again g (spelling g p ++ rest) short in
+pub encoding_not_short : (g : Grammar) → IsGrammar g → (p : Parts) (rest : List ℕ) → IsMessage g p → IsShort g (encoding g p ++ rest) → ⊥
+encoding_not_short g ok p rest legal short =
+    let read = encoding_again g ok p rest legal in
+    let none = short_again g (encoding g p ++ rest) short in
     absurd cc
 
 -- a bad length is not short

@@ -5,7 +5,7 @@ use Rattle.cops_types.specs.declared.format.Format.TheVariants.{One, Two}
 use Rattle.cops_wire.specs.declared.message.Message.{Message}
 use Rattle.cops_wire.specs.declared.message.Message.TheVariants.{Hello, HelloOk, Put, Get, PutDone, Got, Missed, Refused, PutAfter, DepCheck, DepYes, DepWait, Status, StatusIs, Bye, ByeOk, TraceHead, TracePut, TraceGot, TraceMissed, TraceEnd, Del, Deleted, Gone, DelAfter, TraceDel, TraceGone}
 use Rattle.cops_wire.specs.Field.{Content, of_number, of_bytes, of_pairs}
-use Rattle.cops_wire.specs.Grammar.{Parts, value, deps as some_deps, grammar_one, grammar_two, spelling}
+use Rattle.cops_wire.specs.Grammar.{Parts, value, deps as some_deps, grammar_one, grammar_two, encoding}
 use Rattle.cops_wire.specs.Legal.{IsLegal, IsMessage}
 use Rattle.cops_wire.specs.Message.{parts}
 
@@ -74,7 +74,7 @@ more : (ds : List Dep) → IsLegal (some_deps One) (of_pairs ds) → IsLegal (so
 more ds (fits, most, pairs) = (fits, omega (arith, most), pairs)
 
 -- a message of format 1 has the same encoding in format 2
-pub first-in-second : (m : Message) → IsMessage grammar_one (parts m) → IsMessage grammar_two (parts m) × (spelling grammar_two (parts m) ≡ spelling grammar_one (parts m))
+pub first-in-second : (m : Message) → IsMessage grammar_one (parts m) → IsMessage grammar_two (parts m) × (encoding grammar_two (parts m) ≡ encoding grammar_one (parts m))
 first-in-second (Put seq key text) (first, (second, (third, end))) = ((first, (second, (longer text third, end))), refl)
 first-in-second (Got seq text version) (first, (second, (third, end))) = ((first, (longer text second, (third, end))), refl)
 first-in-second (PutAfter key text version ds) (first, (second, (third, (fourth, end)))) = ((first, (longer text second, (third, (more ds fourth, end)))), refl)

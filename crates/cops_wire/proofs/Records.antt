@@ -19,12 +19,12 @@ record_again client index (Gone key version) = refl
 record_again client index (Missed key) = refl
 
 -- the same of an operation that is borrowed
-pub seen_again : (client index : ℕ) (op : OpView) → record_of_message (record_message client index (viewed op)) ≡ Some (record { client = client; index = index; op = op_viewed op })
-seen_again client index (SeenPut key (Some value) version) = refl
-seen_again client index (SeenPut key None version) = refl
-seen_again client index (SeenGot key (Some value) version) = refl
-seen_again client index (SeenGot key None version) = refl
-seen_again client index (SeenMissed key) = refl
+pub borrowed_again : (client index : ℕ) (op : OpView) → record_of_message (record_message client index (viewed op)) ≡ Some (record { client = client; index = index; op = op_viewed op })
+borrowed_again client index (SeenPut key (Some value) version) = refl
+borrowed_again client index (SeenPut key None version) = refl
+borrowed_again client index (SeenGot key (Some value) version) = refl
+borrowed_again client index (SeenGot key None version) = refl
+borrowed_again client index (SeenMissed key) = refl
 
 pub message_is : (m : Message) (r : TraceRecord) → record_of_message m ≡ Some r → m ≡ record_message r.client r.index (operation_of r.op)
 message_is (TracePut client index key value version) r is = let same : record { client = client; index = index; op = Put key value version } ≡ r = cc in rw (← same) refl

@@ -12,7 +12,7 @@ use Rattle.cops_wire.specs.Grammar.{row_of}
 use Rattle.cops_wire.specs.Lengths.{most_len, most_len_all, all_fit}
 use Rattle.cops_wire.specs.declared.reading.ReadFault.{ReadFault}
 use Rattle.cops_wire.specs.declared.reading.ReadFault.TheVariants.{BadField, UnknownKind}
-use Rattle.cops_wire.specs.Field.{u8, u16, u64, Field, number, number_in, string, version, pairs, Content, of_number, of_bytes, of_pairs, spelled_number, spelled_string, spelled_pair, spelled, spelled_all}
+use Rattle.cops_wire.specs.Field.{u8, u16, u64, Field, number, number_in, string, version, pairs, Content, of_number, of_bytes, of_pairs, encoded_number, encoded_string, encoded_pair, encoded, encoded_all}
 use Rattle.cops_wire.specs.Answer.{IsBytes}
 use Rattle.cops_wire.specs.Memory.{takes_memory, first_part}
 use Rattle.cops_wire.specs.Legal.{IsLegal, AllLegal}
@@ -50,23 +50,23 @@ chosen : {A : Type 0} (b : Bool) (x y z : A) → cond b x y ≡ z → (x ≡ z) 
 chosen true x y z e = inl e
 chosen false x y z e = inr e
 
-pub fields_take : (fs : List Field) (bytes : List ℕ) (x : Row) → IsBytes bytes → fields_at fs bytes ≡ Ok x → Takes bytes (spelled_all fs x.0) x.1 × AllLegal fs x.0
+pub fields_take : (fs : List Field) (bytes : List ℕ) (x : Row) → IsBytes bytes → fields_at fs bytes ≡ Ok x → Takes bytes (encoded_all fs x.0) x.1 × AllLegal fs x.0
 fields_take [] bytes x fits e =
-    subst (λ (y : Row). Takes bytes (spelled_all [] y.0) y.1 × AllLegal [] y.0) (row_is ([], bytes) x e) (record { parts = refl; rest_fits = fits }, tt)
+    subst (λ (y : Row). Takes bytes (encoded_all [] y.0) y.1 × AllLegal [] y.0) (row_is ([], bytes) x e) (record { parts = refl; rest_fits = fits }, tt)
 fields_take (f ∷ fs) bytes x fits e =
     let a = then_ok (length bytes) (field_at f bytes) (fields_at fs) x e in
     let first = field_takes f bytes a.0 fits a.1 in
     let b = a.2 in
     let second = fields_take fs a.0.1 b.0 first.0.rest_fits b.1 in
-    let both = Takes-then bytes (spelled f a.0.0) a.0.1 (spelled_all fs b.0.0) b.0.1 first.0 second.0 in
-    subst (λ (y : Row). Takes bytes (spelled_all (f ∷ fs) y.0) y.1 × AllLegal (f ∷ fs) y.0) b.2 (both, (first.1, second.1))
+    let both = Takes-then bytes (encoded f a.0.0) a.0.1 (encoded_all fs b.0.0) b.0.1 first.0 second.0 in
+    subst (λ (y : Row). Takes bytes (encoded_all (f ∷ fs) y.0) y.1 × AllLegal (f ∷ fs) y.0) b.2 (both, (first.1, second.1))
 
-pub fields_again : (fs : List Field) (cs : List Content) (rest : List ℕ) → AllLegal fs cs → fields_at fs (spelled_all fs cs ++ rest) ≡ Ok (cs, rest)
+pub fields_again : (fs : List Field) (cs : List Content) (rest : List ℕ) → AllLegal fs cs → fields_at fs (encoded_all fs cs ++ rest) ≡ Ok (cs, rest)
 fields_again [] [] rest h = refl
 fields_again (f ∷ fs) (c ∷ cs) rest h =
-    let regrouped : spelled_all (f ∷ fs) (c ∷ cs) ++ rest ≡ spelled f c ++ (spelled_all fs cs ++ rest) = append_assoc (spelled f c) (spelled_all fs cs) rest in
-    let first : field_at f (spelled_all (f ∷ fs) (c ∷ cs) ++ rest) ≡ Some (c, spelled_all fs cs ++ rest) = ap (field_at f) regrouped ∙ field_again f c (spelled_all fs cs ++ rest) h.0 in
-    ap (λ (r : Option (Content × List ℕ)). then_read (length (spelled_all (f ∷ fs) (c ∷ cs) ++ rest)) r (fields_at fs)) first
+    let regrouped : encoded_all (f ∷ fs) (c ∷ cs) ++ rest ≡ encoded f c ++ (encoded_all fs cs ++ rest) = append_assoc (encoded f c) (encoded_all fs cs) rest in
+    let first : field_at f (encoded_all (f ∷ fs) (c ∷ cs) ++ rest) ≡ Some (c, encoded_all fs cs ++ rest) = ap (field_at f) regrouped ∙ field_again f c (encoded_all fs cs ++ rest) h.0 in
+    ap (λ (r : Option (Content × List ℕ)). then_read (length (encoded_all (f ∷ fs) (c ∷ cs) ++ rest)) r (fields_at fs)) first
     ∙ ap (put_first c) (fields_again fs cs rest h.1)
 fields_again _ _ rest h = absurd h
 
@@ -88,7 +88,7 @@ pub record StopsAt (fs : List Field) (bytes : List ℕ) (fault : ReadFault) : Ty
   pub contents : List Content
   pub legal : AllLegal before contents
   pub rest : List ℕ
-  pub split : bytes ≡ spelled_all before contents ++ rest
+  pub split : bytes ≡ encoded_all before contents ++ rest
   pub none : field_at field rest ≡ None
   pub fault_is : fault ≡ BadField (length rest)
 
@@ -108,19 +108,19 @@ fields_stop (f ∷ fs) bytes d fits e =
             contents = a.0.0 ∷ s.contents;
             legal = (first.1, s.legal);
             rest = s.rest;
-            split = first.0.parts ∙ ap (λ (t : List ℕ). spelled f a.0.0 ++ t) s.split ∙ sym (append_assoc (spelled f a.0.0) (spelled_all s.before s.contents) s.rest);
+            split = first.0.parts ∙ ap (λ (t : List ℕ). encoded f a.0.0 ++ t) s.split ∙ sym (append_assoc (encoded f a.0.0) (encoded_all s.before s.contents) s.rest);
             none = s.none;
             fault_is = s.fault_is;
           }
     ]
 
 pub fields_stop_again : (before : List Field) (field : Field) (after : List Field) (cs : List Content) (rest : List ℕ) → AllLegal before cs → field_at field rest ≡ None
-    → fields_at (before ++ field ∷ after) (spelled_all before cs ++ rest) ≡ Err (BadField (length rest))
+    → fields_at (before ++ field ∷ after) (encoded_all before cs ++ rest) ≡ Err (BadField (length rest))
 fields_stop_again [] field after [] rest h none = ap (λ (r : Option (Content × List ℕ)). then_read (length rest) r (fields_at after)) none
 fields_stop_again (f ∷ fs) field after (c ∷ cs) rest h none =
-    let regrouped : spelled_all (f ∷ fs) (c ∷ cs) ++ rest ≡ spelled f c ++ (spelled_all fs cs ++ rest) = append_assoc (spelled f c) (spelled_all fs cs) rest in
-    let first : field_at f (spelled_all (f ∷ fs) (c ∷ cs) ++ rest) ≡ Some (c, spelled_all fs cs ++ rest) = ap (field_at f) regrouped ∙ field_again f c (spelled_all fs cs ++ rest) h.0 in
-    ap (λ (r : Option (Content × List ℕ)). then_read (length (spelled_all (f ∷ fs) (c ∷ cs) ++ rest)) r (fields_at (fs ++ field ∷ after))) first
+    let regrouped : encoded_all (f ∷ fs) (c ∷ cs) ++ rest ≡ encoded f c ++ (encoded_all fs cs ++ rest) = append_assoc (encoded f c) (encoded_all fs cs) rest in
+    let first : field_at f (encoded_all (f ∷ fs) (c ∷ cs) ++ rest) ≡ Some (c, encoded_all fs cs ++ rest) = ap (field_at f) regrouped ∙ field_again f c (encoded_all fs cs ++ rest) h.0 in
+    ap (λ (r : Option (Content × List ℕ)). then_read (length (encoded_all (f ∷ fs) (c ∷ cs) ++ rest)) r (fields_at (fs ++ field ∷ after))) first
     ∙ ap (put_first c) (fields_stop_again fs field after cs rest h.1 none)
 fields_stop_again _ field after _ rest h none = absurd h
 
@@ -134,11 +134,11 @@ pub record ComesTo (fs : List Field) (bytes : List ℕ) : Type 0 where
   pub contents : List Content
   pub legal : AllLegal before contents
   pub rest : List ℕ
-  pub split : bytes ≡ spelled_all before contents ++ rest
+  pub split : bytes ≡ encoded_all before contents ++ rest
   pub part : Content
   pub part_legal : IsLegal (first_part field) part
   pub more : List ℕ
-  pub begins : rest ≡ spelled (first_part field) part ++ more
+  pub begins : rest ≡ encoded (first_part field) part ++ more
 
 some_is : {A : Type 0} (o : Option A) → is_some o ≡ true → (x : A) × (o ≡ Some x)
 some_is None e = absurd cc
@@ -184,7 +184,7 @@ fields_come (f ∷ fs) bytes fits h =
             contents = a.0.0 ∷ s.contents;
             legal = (first.1, s.legal);
             rest = s.rest;
-            split = first.0.parts ∙ ap (λ (t : List ℕ). spelled f a.0.0 ++ t) s.split ∙ sym (append_assoc (spelled f a.0.0) (spelled_all s.before s.contents) s.rest);
+            split = first.0.parts ∙ ap (λ (t : List ℕ). encoded f a.0.0 ++ t) s.split ∙ sym (append_assoc (encoded f a.0.0) (encoded_all s.before s.contents) s.rest);
             part = s.part;
             part_legal = s.part_legal;
             more = s.more;
@@ -194,26 +194,26 @@ fields_come (f ∷ fs) bytes fits h =
 
 -- ---- no legal field is longer than the greatest length
 
-pairs_len : (ds : List Dep) → AllByRecursion IsDep ds → length (flat_map spelled_pair ds) ≤ length ds * 73
+pairs_len : (ds : List Dep) → AllByRecursion IsDep ds → length (flat_map encoded_pair ds) ≤ length ds * 73
 pairs_len [] h = omega arith
 pairs_len (d ∷ ds) h =
-    let key : length (spelled_string u8 d.key) ≡ length (spelled_number u8 (length d.key)) + length d.key = length-append (spelled_number u8 (length d.key)) d.key in
-    let pair : length (spelled_pair d) ≡ length (spelled_string u8 d.key) + length (spelled_number u64 d.version) = length-append (spelled_string u8 d.key) (spelled_number u64 d.version) in
-    let all : length (flat_map spelled_pair (d ∷ ds)) ≡ length (spelled_pair d) + length (flat_map spelled_pair ds) = ap length (flat_map-cons spelled_pair d ds) ∙ length-append (spelled_pair d) (flat_map spelled_pair ds) in
+    let key : length (encoded_string u8 d.key) ≡ length (encoded_number u8 (length d.key)) + length d.key = length-append (encoded_number u8 (length d.key)) d.key in
+    let pair : length (encoded_pair d) ≡ length (encoded_string u8 d.key) + length (encoded_number u64 d.version) = length-append (encoded_string u8 d.key) (encoded_number u64 d.version) in
+    let all : length (flat_map encoded_pair (d ∷ ds)) ≡ length (encoded_pair d) + length (flat_map encoded_pair ds) = ap length (flat_map-cons encoded_pair d ds) ∙ length-append (encoded_pair d) (flat_map encoded_pair ds) in
     omega (arith, key, pair, all, (wide u8).len (length d.key), (wide u64).len d.version, h.0.0.1, pairs_len ds h.1)
 
-pub length-spelled : (f : Field) (c : Content) → IsLegal f c → length (spelled f c) ≤ most_len f
-length-spelled (number s) (of_number n) h = omega (arith, (wide s).len n)
-length-spelled (number_in s least greatest) (of_number n) h = omega (arith, (wide s).len n)
-length-spelled (string s least greatest) (of_bytes text) h = omega (arith, length-append (spelled_number s (length text)) text, (wide s).len (length text), h.2)
-length-spelled version (of_number n) h = omega (arith, (wide u64).len n)
-length-spelled (pairs most) (of_pairs ds) h = omega (arith, length-append (spelled_number u16 (length ds)) (flat_map spelled_pair ds), (wide u16).len (length ds), pairs_len ds h.2.1, mul-le-mul_right 73 h.1)
-length-spelled _ _ h = absurd h
+pub length-encoded : (f : Field) (c : Content) → IsLegal f c → length (encoded f c) ≤ most_len f
+length-encoded (number s) (of_number n) h = omega (arith, (wide s).len n)
+length-encoded (number_in s least greatest) (of_number n) h = omega (arith, (wide s).len n)
+length-encoded (string s least greatest) (of_bytes text) h = omega (arith, length-append (encoded_number s (length text)) text, (wide s).len (length text), h.2)
+length-encoded version (of_number n) h = omega (arith, (wide u64).len n)
+length-encoded (pairs most) (of_pairs ds) h = omega (arith, length-append (encoded_number u16 (length ds)) (flat_map encoded_pair ds), (wide u16).len (length ds), pairs_len ds h.2.1, mul-le-mul_right 73 h.1)
+length-encoded _ _ h = absurd h
 
-pub length-spelled_all : (fs : List Field) (cs : List Content) → AllLegal fs cs → length (spelled_all fs cs) ≤ most_len_all fs
-length-spelled_all [] [] h = omega arith
-length-spelled_all (f ∷ fs) (c ∷ cs) h = omega (arith, length-append (spelled f c) (spelled_all fs cs), length-spelled f c h.0, length-spelled_all fs cs h.1)
-length-spelled_all _ _ h = absurd h
+pub length-encoded_all : (fs : List Field) (cs : List Content) → AllLegal fs cs → length (encoded_all fs cs) ≤ most_len_all fs
+length-encoded_all [] [] h = omega arith
+length-encoded_all (f ∷ fs) (c ∷ cs) h = omega (arith, length-append (encoded f c) (encoded_all fs cs), length-encoded f c h.0, length-encoded_all fs cs h.1)
+length-encoded_all _ _ h = absurd h
 
 pub row_fits : (longest kind : ℕ) (rows : List (ℕ × List Field)) (fs : List Field) → IsTrue (all_fit longest rows) → row_of kind rows ≡ Some fs → 1 + most_len_all fs ≤ longest
 row_fits longest kind [] fs ok e = absurd cc

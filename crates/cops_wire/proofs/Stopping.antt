@@ -7,7 +7,7 @@ use Rattle.cops_wire.specs.Grammar.{Grammar, grammar}
 use Rattle.cops_wire.specs.Message.{parts}
 use Rattle.cops_wire.specs.Answer.{IsAnswer, Answers, IsShort}
 use Rattle.cops_wire.specs.Feeding.{Fed, IsStopped, IsStoppedBy, IsNext}
-use Rattle.cops_wire.proofs.Frames.{answer_stays, frame_not_short, spelling_not_short, bad_length_not_short}
+use Rattle.cops_wire.proofs.Frames.{answer_stays, frame_not_short, encoding_not_short, bad_length_not_short}
 use Rattle.cops_wire.proofs.Answering.{grammar_ok}
 
 -- a fault of `decode`, other than `Memory` and `Short`, is what the rest decodes to
@@ -31,7 +31,7 @@ stopped_stays g rest more (Some fault) h = answer_stays g rest more (Err fault) 
 
 -- If the rest begins with no whole frame, the only result is that there is no message yet.
 only_none : (old : Fed) (r : Result (Option Message) WireFault) (new : Fed) → IsNext old r new → IsShort (grammar old.format) old.rest → r ≡ Ok None
-only_none old (Ok (Some m)) new h short = absurd (spelling_not_short (grammar old.format) (grammar_ok old.format) (parts m) new.rest h.0 (subst (IsShort (grammar old.format)) h.1 short))
+only_none old (Ok (Some m)) new h short = absurd (encoding_not_short (grammar old.format) (grammar_ok old.format) (parts m) new.rest h.0 (subst (IsShort (grammar old.format)) h.1 short))
 only_none old (Ok None) new h short = refl
 only_none old (Err Short) new h short = absurd h.0
 only_none old (Err BadLength) new h short = absurd (bad_length_not_short (grammar old.format) old.rest h.0 short)

@@ -12,10 +12,10 @@ use Rattle.std.specs.Int.{w32, from_be_bytes}
 use Rattle.cops_wire.specs.declared.fault.WireFault.{WireFault}
 use Rattle.cops_wire.specs.declared.fault.WireFault.TheVariants.{Memory, Short, BadLength, UnknownKind, BadField, TrailingBytes}
 use Rattle.cops_wire.specs.declared.decoding.Decoded.{Decoded}
-use Rattle.cops_wire.specs.Field.{u32, Field, Content, spelled_number, spelled, spelled_all}
+use Rattle.cops_wire.specs.Field.{u32, Field, Content, encoded_number, encoded, encoded_all}
 use Rattle.cops_wire.specs.Memory.{takes_memory, first_part}
 use Rattle.cops_wire.specs.Legal.{IsLegal, AllLegal, IsMessage}
-use Rattle.cops_wire.specs.Grammar.{Grammar, Parts, fields_of, spelling}
+use Rattle.cops_wire.specs.Grammar.{Grammar, Parts, fields_of, encoding}
 use Rattle.cops_wire.specs.Message.{parts}
 
 -- a list of bytes
@@ -37,7 +37,7 @@ HasBadLength g bytes = (4 ≤ length bytes) × ((length_at bytes ≡ 0) ⊎ (g.l
 -- the bytes pass the first three checks: they begin with a whole frame, of this kind, with these bytes for its fields
 pub record BeginsWithFrame (g : Grammar) (bytes : List ℕ) (kind : ℕ) (fields : List ℕ) : Type 0 where
   pub rest : List ℕ
-  pub front : bytes ≡ spelled_number u32 (length (kind ∷ fields)) ++ (kind ∷ fields) ++ rest
+  pub front : bytes ≡ encoded_number u32 (length (kind ∷ fields)) ++ (kind ∷ fields) ++ rest
   pub fits : length (kind ∷ fields) ≤ g.longest
 
 -- check 4
@@ -68,15 +68,15 @@ pub record BeginsWithTaking (g : Grammar) (bytes : List ℕ) : Type 0 where
   pub contents : List Content
   pub legal : AllLegal before contents
   pub rest : List ℕ
-  pub split : fields ≡ spelled_all before contents ++ rest
+  pub split : fields ≡ encoded_all before contents ++ rest
   pub part : Content
   pub part_legal : IsLegal (first_part field) part
   pub more : List ℕ
-  pub begins : rest ≡ spelled (first_part field) part ++ more
+  pub begins : rest ≡ encoded (first_part field) part ++ more
 
 -- the bytes begin with no legal field of this type: each runs past the end, or differs
 abbrev pub NoneBegins : Field → List ℕ → Type 0
-NoneBegins field bytes = (c : Content) → IsLegal field c → (rest : List ℕ) → bytes ≢ spelled field c ++ rest
+NoneBegins field bytes = (c : Content) → IsLegal field c → (rest : List ℕ) → bytes ≢ encoded field c ++ rest
 
 -- check 5: legal fields, and then a place where the next field cannot be read
 pub record HasBadField (g : Grammar) (bytes : List ℕ) (offset : ℕ) : Type 0 where
@@ -90,9 +90,9 @@ pub record HasBadField (g : Grammar) (bytes : List ℕ) (offset : ℕ) : Type 0 
   pub contents : List Content
   pub legal : AllLegal before contents
   pub rest : List ℕ
-  pub split : fields ≡ spelled_all before contents ++ rest
+  pub split : fields ≡ encoded_all before contents ++ rest
   pub bad : NoneBegins field rest
-  pub place : offset ≡ 5 + length (spelled_all before contents)
+  pub place : offset ≡ 5 + length (encoded_all before contents)
 
 -- check 6: all the fields, and then more bytes of the body
 pub record HasTrailingBytes (g : Grammar) (bytes : List ℕ) : Type 0 where
@@ -104,15 +104,15 @@ pub record HasTrailingBytes (g : Grammar) (bytes : List ℕ) : Type 0 where
   pub contents : List Content
   pub legal : AllLegal types contents
   pub rest : List ℕ
-  pub split : fields ≡ spelled_all types contents ++ rest
+  pub split : fields ≡ encoded_all types contents ++ rest
   pub more : rest ≢ []
 
 -- no fault: the bytes begin with a message's encoding, of length `used`
 pub record HasMessage (g : Grammar) (bytes : List ℕ) (p : Parts) (used : ℕ) : Type 0 where
   pub message : IsMessage g p
   pub rest : List ℕ
-  pub front : bytes ≡ spelling g p ++ rest
-  pub length_is : used ≡ length (spelling g p)
+  pub front : bytes ≡ encoding g p ++ rest
+  pub length_is : used ≡ length (encoding g p)
 
 -- The bytes decode to this result.
 abbrev pub IsAnswer : Grammar → List ℕ → Result (Parts × ℕ) WireFault → Type 0

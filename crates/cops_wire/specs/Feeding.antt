@@ -4,7 +4,7 @@ use Rattle.cops_types.specs.declared.format.Format.{Format}
 use Rattle.cops_wire.specs.declared.fault.WireFault.{WireFault}
 use Rattle.cops_wire.specs.declared.fault.WireFault.TheVariants.{Memory, Short}
 use Rattle.cops_wire.specs.declared.message.Message.{Message}
-use Rattle.cops_wire.specs.Grammar.{Grammar, grammar, spelling}
+use Rattle.cops_wire.specs.Grammar.{Grammar, grammar, encoding}
 use Rattle.cops_wire.specs.Legal.{IsMessage}
 use Rattle.cops_wire.specs.Message.{parts}
 use Rattle.cops_wire.specs.Answer.{IsAnswer, IsShort, BeginsWithTaking}
@@ -35,7 +35,7 @@ IsStoppedBy g rest (Some fault) = IsStopped g rest fault
 -- decodes to, and is kept. Only a message changes the rest. Memory runs out only at a field whose reading allocates, and then nothing changes. The
 -- format stays.
 abbrev pub IsNext : Fed → Result (Option Message) WireFault → Fed → Type 0
-IsNext old (Ok (Some m)) new = IsMessage (grammar old.format) (parts m) × (old.rest ≡ spelling (grammar old.format) (parts m) ++ new.rest) × (new.fault ≡ None) × (new.format ≡ old.format)
+IsNext old (Ok (Some m)) new = IsMessage (grammar old.format) (parts m) × (old.rest ≡ encoding (grammar old.format) (parts m) ++ new.rest) × (new.fault ≡ None) × (new.format ≡ old.format)
 IsNext old (Ok None) new = IsShort (grammar old.format) old.rest × (new ≡ old)
 IsNext old (Err Memory) new = BeginsWithTaking (grammar old.format) old.rest × (new ≡ old)
 IsNext old (Err fault) new = IsStopped (grammar old.format) old.rest fault × (new ≡ record old { fault = Some fault })

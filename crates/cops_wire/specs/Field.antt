@@ -36,27 +36,27 @@ abbrev pub key : Field
 key = string u8 1 MAX_KEY
 
 -- big-endian; proofs unfold it only where the bytes of a number matter
-unfoldable pub spelled_number : Size → ℕ → List ℕ
-spelled_number s n = to_be_bytes (width s) n
+unfoldable pub encoded_number : Size → ℕ → List ℕ
+encoded_number s n = to_be_bytes (width s) n
 
 -- bytes after their length
-abbrev pub spelled_string : Size → List ℕ → List ℕ
-spelled_string s bytes = spelled_number s (length bytes) ++ bytes
+abbrev pub encoded_string : Size → List ℕ → List ℕ
+encoded_string s bytes = encoded_number s (length bytes) ++ bytes
 
 -- a key and its version
-abbrev pub spelled_pair : Dep → List ℕ
-spelled_pair d = spelled_string u8 d.key ++ spelled_number u64 d.version
+abbrev pub encoded_pair : Dep → List ℕ
+encoded_pair d = encoded_string u8 d.key ++ encoded_number u64 d.version
 
 -- the encoding of a field
-abbrev pub spelled : Field → Content → List ℕ
-spelled (number s) (of_number n) = spelled_number s n
-spelled (number_in s least greatest) (of_number n) = spelled_number s n
-spelled (string s least greatest) (of_bytes bytes) = spelled_string s bytes
-spelled version (of_number n) = spelled_number u64 n
-spelled (pairs most) (of_pairs ds) = spelled_number u16 (length ds) ++ flat_map spelled_pair ds
-spelled _ _ = []
+abbrev pub encoded : Field → Content → List ℕ
+encoded (number s) (of_number n) = encoded_number s n
+encoded (number_in s least greatest) (of_number n) = encoded_number s n
+encoded (string s least greatest) (of_bytes bytes) = encoded_string s bytes
+encoded version (of_number n) = encoded_number u64 n
+encoded (pairs most) (of_pairs ds) = encoded_number u16 (length ds) ++ flat_map encoded_pair ds
+encoded _ _ = []
 
 -- the encoding of fields in a row
-abbrev pub spelled_all : List Field → List Content → List ℕ
-spelled_all (f ∷ fs) (c ∷ cs) = spelled f c ++ spelled_all fs cs
-spelled_all _ _ = []
+abbrev pub encoded_all : List Field → List Content → List ℕ
+encoded_all (f ∷ fs) (c ∷ cs) = encoded f c ++ encoded_all fs cs
+encoded_all _ _ = []

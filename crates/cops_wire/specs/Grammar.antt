@@ -3,7 +3,7 @@ use Rattle.std.specs.Prelude.{ℕ, ◌==◌, if◌then◌else◌, List, [], ◌�
 use Rattle.cops_types.specs.declared.format.Format.{Format}
 use Rattle.cops_types.specs.declared.format.Format.TheVariants.{One, Two}
 use Rattle.cops_types.specs.Format.{most_value, most_deps, longest_body}
-use Rattle.cops_wire.specs.Field.{Field, Content, u8, u16, u32, u64, number, number_in, string, version, pairs, key, spelled_number, spelled_all}
+use Rattle.cops_wire.specs.Field.{Field, Content, u8, u16, u32, u64, number, number_in, string, version, pairs, key, encoded_number, encoded_all}
 
 pub record Grammar : Type 0 where
   pub kinds : List (ℕ × List Field)
@@ -81,8 +81,8 @@ pub record Parts : Type 0 where
 
 -- the body of a message: the kind's byte and the fields
 abbrev pub body : Grammar → Parts → List ℕ
-body g p = p.kind ∷ spelled_all (unwrap_or (fields_of g p.kind) []) p.contents
+body g p = p.kind ∷ encoded_all (unwrap_or (fields_of g p.kind) []) p.contents
 
 -- the encoding of a message, its frame: its body after the body's length
-abbrev pub spelling : Grammar → Parts → List ℕ
-spelling g p = spelled_number u32 (length (body g p)) ++ body g p
+abbrev pub encoding : Grammar → Parts → List ℕ
+encoding g p = encoded_number u32 (length (body g p)) ++ body g p

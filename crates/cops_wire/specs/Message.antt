@@ -3,7 +3,7 @@ use Rattle.std.specs.Prelude.{ℕ, List, [], ◌∷◌}
 use Rattle.cops_wire.specs.declared.message.Message.{Message}
 use Rattle.cops_wire.specs.declared.message.Message.TheVariants.{Hello, HelloOk, Put, Get, PutDone, Got, Missed, Refused, PutAfter, DepCheck, DepYes, DepWait, Status, StatusIs, Bye, ByeOk, TraceHead, TracePut, TraceGot, TraceMissed, TraceEnd, Del, Deleted, Gone, DelAfter, TraceDel, TraceGone}
 use Rattle.cops_wire.specs.Field.{of_number, of_bytes, of_pairs}
-use Rattle.cops_wire.specs.Grammar.{Parts, grammar_two, spelling}
+use Rattle.cops_wire.specs.Grammar.{Parts, grammar_two, encoding}
 
 abbrev pub parts : Message → Parts
 parts (Hello profile client) = record { kind = 1; contents = of_number profile ∷ of_number client ∷ [] }
@@ -35,5 +35,5 @@ parts (TraceDel client index key version) = record { kind = 26; contents = of_nu
 parts (TraceGone client index key version) = record { kind = 27; contents = of_number client ∷ of_number index ∷ of_bytes key ∷ of_number version ∷ [] }
 
 -- the encoding of a message in format 2, which has all messages
-unfoldable pub spelled : Message → List ℕ
-spelled m = spelling grammar_two (parts m)
+unfoldable pub encoded : Message → List ℕ
+encoded m = encoding grammar_two (parts m)

@@ -26,5 +26,5 @@ record_of_message (TraceGone client index key version) = Some (record { client =
 record_of_message _ = None
 
 -- the message of a borrowed record
-abbrev pub seen_message : RecordView → Message
-seen_message r = record_message r.client r.index (viewed r.op)
+abbrev pub borrowed_message : RecordView → Message
+borrowed_message r = record_message r.client r.index (viewed r.op)

@@ -40,7 +40,7 @@ impl Buffer {
         ensures ok { OnOk result (self.new ≡ self.old ++ piece.now) }
         ensures err { OnErr result (self.new ≡ self.old) }
     {
-        remove_front(&mut self.bytes, self.start);
+        remove_prefix(&mut self.bytes, self.start);
         self.start = 0;
         self.bytes.extend_from_slice(piece)?;
         Ok(())
@@ -63,7 +63,7 @@ impl Buffer {
 }
 
 /// Removes the first `count` bytes.
-fn remove_front(bytes: &mut Vec<u8>, count: usize)
+fn remove_prefix(bytes: &mut Vec<u8>, count: usize)
     requires { count ≤ length bytes.old.items }
     ensures { bytes.new.items ≡ drop count bytes.old.items }
 {

@@ -1,9 +1,7 @@
-//! The one spelling of a message.
+//! The one encoding of a message.
 ghost use Rattle.std.specs.Prelude.{◌≡◌, ◌+◌, ◌≤◌, ◌++◌, length, vec_len, vec_capacity, IsOk, OnOk, OnErr};
-ghost use Rattle.cops_types.specs.KeyValue.{IsKey, IsValue};
 ghost use Rattle.cops_types.specs.OpRefs.{seen};
-ghost use Rattle.cops_types.specs.Version.{IsVersion};
-ghost use Rattle.cops_wire.specs.Grammar.{grammar_two, body, spelling};
+ghost use Rattle.cops_wire.specs.Grammar.{grammar_two, body, encoding};
 ghost use Rattle.cops_wire.specs.Legal.{IsLegalMessage};
 ghost use Rattle.cops_wire.specs.Message.{parts};
 ghost use Rattle.cops_wire.specs.Kind.{kind_of};
@@ -13,7 +11,7 @@ ghost use Rattle.cops_wire.specs.Replicated.{put_after};
 use crate::field::{self, FieldRef, as_written};
 use crate::message::Message;
 use crate::table::kinds;
-use cops_types::{Key, Memory, OpRef, PutRecord, Value, Version};
+use cops_types::{Memory, OpRef, PutRecord};
 
 /// The number of a message's kind, 1 to 27.
 pub fn kind(message: &Message) -> u8
@@ -47,7 +45,7 @@ pub fn body_len(message: &Message) -> usize
 /// memory runs out. A message of format 1 has the same frame in both formats.
 pub fn encode(message: &Message, out: &mut Vec<u8>) -> Result<(), Memory>
     requires { IsLegalMessage message.now }
-    ensures ok { OnOk result (out.new.items ≡ out.old.items ++ spelling grammar_two (parts message.now)) }
+    ensures ok { OnOk result (out.new.items ≡ out.old.items ++ encoding grammar_two (parts message.now)) }
     ensures err { OnErr result (out.new.items ≡ out.old.items) }
 {
     macro_rules! append {
@@ -65,7 +63,7 @@ pub fn encode(message: &Message, out: &mut Vec<u8>) -> Result<(), Memory>
 /// made.
 pub fn encode_put_after(put: &PutRecord, out: &mut Vec<u8>) -> Result<(), Memory>
     ensures legal { IsLegalMessage (put_after put.now) }
-    ensures ok { OnOk result (out.new.items ≡ out.old.items ++ spelling grammar_two (parts (put_after put.now))) }
+    ensures ok { OnOk result (out.new.items ≡ out.old.items ++ encoding grammar_two (parts (put_after put.now))) }
     ensures err { OnErr result (out.new.items ≡ out.old.items) }
 {
     // These calls show that the key, the value, the version and the dependencies are within their ranges.
@@ -104,93 +102,42 @@ pub fn encode_record(
     out: &mut Vec<u8>,
 ) -> Result<(), Memory>
     ensures legal { IsLegalMessage (record_message client index (seen op.now)) }
-    ensures ok { OnOk result (out.new.items ≡ out.old.items ++ spelling grammar_two (parts (record_message client index (seen op.now)))) }
+    ensures ok { OnOk result (out.new.items ≡ out.old.items ++ encoding grammar_two (parts (record_message client index (seen op.now)))) }
     ensures err { OnErr result (out.new.items ≡ out.old.items) }
-    ensures succeeds { vec_len out.old + length (spelling grammar_two (parts (record_message client index (seen op.now)))) ≤ vec_capacity out.old → IsOk result }
+    ensures succeeds { vec_len out.old + length (encoding grammar_two (parts (record_message client index (seen op.now)))) ≤ vec_capacity out.old → IsOk result }
     ensures capacity { vec_capacity out.old ≤ vec_capacity out.new }
 {
     let (client, index) = (FieldRef::U16(&client), FieldRef::U32(&index));
+    macro_rules! append {
+        ($kind:literal, $key:ident $(, $value:ident)?; $version:ident) => {{
+            // These calls show that the fields are within their ranges.
+            let _key = $key.as_bytes();
+            $(let _value = $value.as_bytes();)?
+            let _version = $version.as_u64();
+            let fields = [client, index, FieldRef::Key($key), $(FieldRef::Value($value),)? FieldRef::Version($version)];
+            field::append(out, $kind, &fields)
+        }};
+    }
     match op {
         OpRef::Put {
             key,
-            value: Some(value),
             version,
-        } => {
-            in_range(key, value, version);
-            let fields = [
-                client,
-                index,
-                FieldRef::Key(key),
-                FieldRef::Value(value),
-                FieldRef::Version(version),
-            ];
-            field::append(out, 18, &fields)
-        }
+            value,
+        } => match value {
+            Some(value) => append!(18, key, value; version),
+            None => append!(26, key; version),
+        },
         OpRef::Got {
             key,
-            value: Some(value),
             version,
-        } => {
-            in_range(key, value, version);
-            let fields = [
-                client,
-                index,
-                FieldRef::Key(key),
-                FieldRef::Value(value),
-                FieldRef::Version(version),
-            ];
-            field::append(out, 19, &fields)
-        }
-        OpRef::Put {
-            key,
-            value: None,
-            version,
-        } => {
-            key_in_range(key, version);
-            let fields = [
-                client,
-                index,
-                FieldRef::Key(key),
-                FieldRef::Version(version),
-            ];
-            field::append(out, 26, &fields)
-        }
-        OpRef::Got {
-            key,
-            value: None,
-            version,
-        } => {
-            key_in_range(key, version);
-            let fields = [
-                client,
-                index,
-                FieldRef::Key(key),
-                FieldRef::Version(version),
-            ];
-            field::append(out, 27, &fields)
-        }
+            value,
+        } => match value {
+            Some(value) => append!(19, key, value; version),
+            None => append!(27, key; version),
+        },
         OpRef::Missed { key } => {
             let _key = key.as_bytes();
             field::append(out, 20, &[client, index, FieldRef::Key(key)])
         }
     }
-}
-
-/// A key, a value and a version are within their ranges.
-fn in_range(key: &Key, value: &Value, version: &Version)
-    ensures key { IsKey key.now }
-    ensures value { IsValue value.now }
-    ensures version { IsVersion version.now }
-{
-    let _value = value.as_bytes();
-    key_in_range(key, version);
-}
-
-/// A key and a version are within their ranges.
-fn key_in_range(key: &Key, version: &Version)
-    ensures key { IsKey key.now }
-    ensures version { IsVersion version.now }
-{
-    let _key = key.as_bytes();
-    let _version = version.as_u64();
 }

@@ -1,8 +1,8 @@
 //! A message's fields as they are written.
 ghost use Rattle.std.specs.Prelude.{◌≡◌, ◌+◌, ◌*◌, ◌≤◌, ◌++◌, length, vec_len, vec_capacity, IsOk, OnOk, OnErr};
 ghost use Rattle.std.specs.List.{flat_map};
-ghost use Rattle.cops_wire.specs.Field.{spelled_pair};
-ghost use Rattle.cops_wire.specs.Written.{spelled_field, spelled_body, spelled_frame};
+ghost use Rattle.cops_wire.specs.Field.{encoded_pair};
+ghost use Rattle.cops_wire.specs.Written.{encoded_field, encoded_body, encoded_frame};
 
 use crate::put;
 use cops_types::{Deps, Key, Memory, Value, Version};
@@ -35,9 +35,9 @@ macro_rules! as_written {
 pub(crate) use as_written;
 
 /// The number of bytes of a field's encoding: at most 74,754, for a count and 1,024 pairs of 73 bytes.
-#[tactic(auto, unfolding(crate::specs::Field::spelled_number))]
+#[tactic(auto, unfolding(crate::specs::Field::encoded_number))]
 fn field_len(field: &FieldRef<'_>) -> usize
-    ensures len { result ≡ length (spelled_field field.now) }
+    ensures len { result ≡ length (encoded_field field.now) }
     ensures most { result ≤ 74754 }
 {
     match field {
@@ -52,9 +52,9 @@ fn field_len(field: &FieldRef<'_>) -> usize
     }
 }
 
-#[tactic(auto, unfolding(crate::specs::Field::spelled_number))]
+#[tactic(auto, unfolding(crate::specs::Field::encoded_number))]
 fn deps_len(deps: &Deps) -> usize
-    ensures len { result ≡ 2 + length (flat_map spelled_pair deps.now) }
+    ensures len { result ≡ 2 + length (flat_map encoded_pair deps.now) }
     ensures most { result ≤ 74754 }
 {
     let mut len = 2;
@@ -67,7 +67,7 @@ fn deps_len(deps: &Deps) -> usize
 /// The number of bytes of a body.
 pub(crate) fn len(kind: u8, fields: &[FieldRef<'_>]) -> usize
     requires { length fields.now ≤ 8 }
-    ensures len { result ≡ length (spelled_body kind fields.now) }
+    ensures len { result ≡ length (encoded_body kind fields.now) }
     ensures most { result ≤ 1 + 8 * 74754 }
 {
     let _kind = kind;
@@ -78,11 +78,11 @@ pub(crate) fn len(kind: u8, fields: &[FieldRef<'_>]) -> usize
     len
 }
 
-#[tactic(auto, unfolding(crate::specs::Field::spelled_number))]
+#[tactic(auto, unfolding(crate::specs::Field::encoded_number))]
 fn put_field(out: &mut Vec<u8>, field: &FieldRef<'_>)
-    requires { vec_len out.old + length (spelled_field field.now) ≤ vec_capacity out.old }
-    ensures items { out.new.items ≡ out.old.items ++ spelled_field field.now }
-    ensures len { vec_len out.new ≡ vec_len out.old + length (spelled_field field.now) }
+    requires { vec_len out.old + length (encoded_field field.now) ≤ vec_capacity out.old }
+    ensures items { out.new.items ≡ out.old.items ++ encoded_field field.now }
+    ensures len { vec_len out.new ≡ vec_len out.old + length (encoded_field field.now) }
     ensures room { vec_capacity out.old ≤ vec_capacity out.new }
 {
     match field {
@@ -98,12 +98,12 @@ fn put_field(out: &mut Vec<u8>, field: &FieldRef<'_>)
 }
 
 /// Appends a frame, or where memory runs out nothing. It takes none where there is room for the frame.
-#[tactic(auto, unfolding(crate::specs::Field::spelled_number))]
+#[tactic(auto, unfolding(crate::specs::Field::encoded_number))]
 pub(crate) fn append(out: &mut Vec<u8>, kind: u8, fields: &[FieldRef<'_>]) -> Result<(), Memory>
     requires { length fields.now ≤ 8 }
-    ensures ok { OnOk result (out.new.items ≡ out.old.items ++ spelled_frame kind fields.now) }
+    ensures ok { OnOk result (out.new.items ≡ out.old.items ++ encoded_frame kind fields.now) }
     ensures err { OnErr result (out.new.items ≡ out.old.items) }
-    ensures succeeds { vec_len out.old + length (spelled_frame kind fields.now) ≤ vec_capacity out.old → IsOk result }
+    ensures succeeds { vec_len out.old + length (encoded_frame kind fields.now) ≤ vec_capacity out.old → IsOk result }
     ensures capacity { vec_capacity out.old ≤ vec_capacity out.new }
 {
     let len = len(kind, fields);

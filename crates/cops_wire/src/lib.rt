@@ -37,9 +37,9 @@ pub use encoding::{body_len, encode, encode_put_after, encode_record, kind};
 pub use fault::WireFault;
 pub use feeder::Feeder;
 pub use laws::{
-    answer_is_read, answer_splits, answer_stays, first_is_in_second, front_is_short,
-    known_is_from_fields, one_answer, one_spelling, parts_tell_messages, spelling_is_answered,
-    spelling_is_bounded, taking_is_known,
+    answer_is_read, answer_splits, answer_stays, encoding_is_answered, encoding_is_bounded,
+    first_is_in_second, known_is_from_fields, one_answer, one_encoding, parts_determine_messages,
+    prefix_is_short, taking_is_known,
 };
 pub use legality::{legal, legal_in};
 pub use message::Message;

@@ -6,7 +6,7 @@ ghost use Rattle.cops_wire.specs.Grammar.{grammar, grammar_two};
 ghost use Rattle.cops_wire.specs.Kind.{contents_of, kind_of};
 ghost use Rattle.cops_wire.specs.Message.{parts};
 ghost use Rattle.cops_wire.specs.Reading.{body_at, contents_at, frame_at};
-ghost use Rattle.cops_wire.specs.Records.{seen_message};
+ghost use Rattle.cops_wire.specs.Records.{borrowed_message};
 
 use crate::decoding::whole_body;
 use crate::reading::{ReadFault, Rest};
@@ -27,7 +27,7 @@ impl<'a> Rest<'a> {
     /// The put whose fields stand at the front.
     #[inline(always)]
     fn put_view(&mut self, used: usize) -> Result<RecordView<'a>, ReadFault>
-        ensures { IfOk result (λ r. (kind_of (seen_message r) ≡ 18) × (r.used ≡ used) × (contents_at (grammar self.old.format) 18 self.old.bytes.now ≡ Ok (contents_of (seen_message r), self.new.bytes.now))) }
+        ensures { IfOk result (λ r. (kind_of (borrowed_message r) ≡ 18) × (r.used ≡ used) × (contents_at (grammar self.old.format) 18 self.old.bytes.now ≡ Ok (contents_of (borrowed_message r), self.new.bytes.now))) }
     {
         let client = self.u16()?;
         let index = self.u32()?;
@@ -50,7 +50,7 @@ impl<'a> Rest<'a> {
     /// The get that returned a value, whose fields stand at the front.
     #[inline(always)]
     fn got_view(&mut self, used: usize) -> Result<RecordView<'a>, ReadFault>
-        ensures { IfOk result (λ r. (kind_of (seen_message r) ≡ 19) × (r.used ≡ used) × (contents_at (grammar self.old.format) 19 self.old.bytes.now ≡ Ok (contents_of (seen_message r), self.new.bytes.now))) }
+        ensures { IfOk result (λ r. (kind_of (borrowed_message r) ≡ 19) × (r.used ≡ used) × (contents_at (grammar self.old.format) 19 self.old.bytes.now ≡ Ok (contents_of (borrowed_message r), self.new.bytes.now))) }
     {
         let client = self.u16()?;
         let index = self.u32()?;
@@ -73,7 +73,7 @@ impl<'a> Rest<'a> {
     /// The get that found nothing, whose fields stand at the front.
     #[inline(always)]
     fn missed_view(&mut self, used: usize) -> Result<RecordView<'a>, ReadFault>
-        ensures { IfOk result (λ r. (kind_of (seen_message r) ≡ 20) × (r.used ≡ used) × (contents_at (grammar self.old.format) 20 self.old.bytes.now ≡ Ok (contents_of (seen_message r), self.new.bytes.now))) }
+        ensures { IfOk result (λ r. (kind_of (borrowed_message r) ≡ 20) × (r.used ≡ used) × (contents_at (grammar self.old.format) 20 self.old.bytes.now ≡ Ok (contents_of (borrowed_message r), self.new.bytes.now))) }
     {
         let client = self.u16()?;
         let index = self.u32()?;
@@ -90,7 +90,7 @@ impl<'a> Rest<'a> {
     /// The deletion whose fields stand at the front.
     fn del_view(&mut self, used: usize) -> Result<RecordView<'a>, ReadFault>
         requires { self.old.format ≡ Format.Two }
-        ensures { IfOk result (λ r. (kind_of (seen_message r) ≡ 26) × (r.used ≡ used) × (contents_at grammar_two 26 self.old.bytes.now ≡ Ok (contents_of (seen_message r), self.new.bytes.now))) }
+        ensures { IfOk result (λ r. (kind_of (borrowed_message r) ≡ 26) × (r.used ≡ used) × (contents_at grammar_two 26 self.old.bytes.now ≡ Ok (contents_of (borrowed_message r), self.new.bytes.now))) }
     {
         let client = self.u16()?;
         let index = self.u32()?;
@@ -112,7 +112,7 @@ impl<'a> Rest<'a> {
     /// The get that found a deletion, whose fields stand at the front.
     fn gone_view(&mut self, used: usize) -> Result<RecordView<'a>, ReadFault>
         requires { self.old.format ≡ Format.Two }
-        ensures { IfOk result (λ r. (kind_of (seen_message r) ≡ 27) × (r.used ≡ used) × (contents_at grammar_two 27 self.old.bytes.now ≡ Ok (contents_of (seen_message r), self.new.bytes.now))) }
+        ensures { IfOk result (λ r. (kind_of (borrowed_message r) ≡ 27) × (r.used ≡ used) × (contents_at grammar_two 27 self.old.bytes.now ≡ Ok (contents_of (borrowed_message r), self.new.bytes.now))) }
     {
         let client = self.u16()?;
         let index = self.u32()?;
@@ -133,7 +133,7 @@ impl<'a> Rest<'a> {
 
     /// The record of this kind, one of those of format 2 alone, whose fields stand at the front.
     fn deletion_view(&mut self, kind: u8, used: usize) -> Result<RecordView<'a>, ReadFault>
-        ensures { IfOk result (λ r. (kind_of (seen_message r) ≡ kind) × (r.used ≡ used) × (contents_at (grammar self.old.format) kind self.old.bytes.now ≡ Ok (contents_of (seen_message r), self.new.bytes.now))) }
+        ensures { IfOk result (λ r. (kind_of (borrowed_message r) ≡ kind) × (r.used ≡ used) × (contents_at (grammar self.old.format) kind self.old.bytes.now ≡ Ok (contents_of (borrowed_message r), self.new.bytes.now))) }
     {
         match (self.format, kind) {
             (Format::Two, 26) => self.del_view(used),
@@ -145,7 +145,7 @@ impl<'a> Rest<'a> {
     /// The record of this kind whose fields stand at the front.
     #[inline(always)]
     fn record_view(&mut self, kind: u8, used: usize) -> Result<RecordView<'a>, ReadFault>
-        ensures { IfOk result (λ r. (kind_of (seen_message r) ≡ kind) × (r.used ≡ used) × (contents_at (grammar self.old.format) kind self.old.bytes.now ≡ Ok (contents_of (seen_message r), self.new.bytes.now))) }
+        ensures { IfOk result (λ r. (kind_of (borrowed_message r) ≡ kind) × (r.used ≡ used) × (contents_at (grammar self.old.format) kind self.old.bytes.now ≡ Ok (contents_of (borrowed_message r), self.new.bytes.now))) }
     {
         match kind {
             18 => self.put_view(used),
@@ -161,7 +161,7 @@ impl<'a> Rest<'a> {
 fn record_in<'a>(format: Format, alloc: Global, text: &'a [u8]) -> Option<RecordView<'a>>
     requires some { 0 < length text.now }
     requires fits { length text.now ≤ longest_body format }
-    ensures { IfSome result (λ r. body_at (grammar format) text.now ≡ Ok (parts (seen_message r), r.used)) }
+    ensures { IfSome result (λ r. body_at (grammar format) text.now ≡ Ok (parts (borrowed_message r), r.used)) }
 {
     let used = 4 + text.len();
     let mut rest = Rest {
@@ -179,7 +179,7 @@ fn record_in<'a>(format: Format, alloc: Global, text: &'a [u8]) -> Option<Record
 /// is there, or no whole frame, or a frame with a fault; `decode_in` says which.
 #[inline(always)]
 pub fn record_at<'a>(format: Format, alloc: Global, bytes: &'a [u8]) -> Option<RecordView<'a>>
-    ensures { IfSome result (λ r. IsAnswer (grammar format) bytes.now (Ok (parts (seen_message r), r.used))) }
+    ensures { IfSome result (λ r. IsAnswer (grammar format) bytes.now (Ok (parts (borrowed_message r), r.used))) }
 {
     match whole_body(format, bytes) {
         Ok(text) => record_in(format, alloc, text),

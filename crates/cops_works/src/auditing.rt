@@ -2,7 +2,7 @@
 
 use cops_audit::{FeedFault, Online};
 use cops_batch::{BatchFault, judge_with};
-use cops_command::reported;
+use cops_command::report_of;
 use cops_report::{report, report_judged};
 use cops_trace::{Trace, TraceFault, read_trace};
 use cops_types::{Counted, History, Memory, OpName, OpRef, OpenGate};
@@ -111,7 +111,7 @@ fn all_say<R: Threads + Wait + Sync>(
     wanted: &[u8],
 ) -> Result<bool, Memory> {
     Ok(
-        reported(alloc, history)?.as_slice() == wanted
+        report_of(alloc, history)?.as_slice() == wanted
             && two_say(rt, alloc, history, wanted)?
             && fed_says(alloc, history, wanted)?,
     )

@@ -96,7 +96,7 @@ fn closed(cluster: Cluster, shares: Vec<Share>) -> Option<Closed> {
 }
 
 /// Whether the trace of a cluster has this number of operations once the cluster is closed.
-fn are_told(cluster: Cluster, shares: Vec<Share>, operations: usize) -> bool {
+fn are_reported(cluster: Cluster, shares: Vec<Share>, operations: usize) -> bool {
     match closed(cluster, shares) {
         Some(closed) => {
             let are = closed.trace.len() == operations;
@@ -108,9 +108,9 @@ fn are_told(cluster: Cluster, shares: Vec<Share>, operations: usize) -> bool {
 }
 
 /// Whether the trace has two operations, once the client's share is added to the others.
-fn is_told(cluster: Cluster, client: Client, mut shares: Vec<Share>) -> Result<bool, Memory> {
+fn is_reported(cluster: Cluster, client: Client, mut shares: Vec<Share>) -> Result<bool, Memory> {
     shares.push(client.into_share())?;
-    Ok(are_told(cluster, shares, 2))
+    Ok(are_reported(cluster, shares, 2))
 }
 
 /// Whether a client gets what it put, and both operations are in the trace in the end.
@@ -122,7 +122,7 @@ fn is_answered<R: Wait>(
     shares: Vec<Share>,
 ) -> Result<bool, Memory> {
     match gets_what_it_put(rt, alloc, &cluster, &mut client) {
-        Ok(true) => is_told(cluster, client, shares),
+        Ok(true) => is_reported(cluster, client, shares),
         answer => {
             drop(cluster);
             drop(client);
@@ -133,7 +133,7 @@ fn is_answered<R: Wait>(
 }
 
 /// Like `is_answered`, with the last client of an opened cluster.
-fn is_told_in<R: Wait>(rt: &R, alloc: Global, opened: Opened) -> Result<bool, Memory> {
+fn is_reported_in<R: Wait>(rt: &R, alloc: Global, opened: Opened) -> Result<bool, Memory> {
     let Opened {
         cluster,
         mut clients,
@@ -154,7 +154,7 @@ fn is_told_in<R: Wait>(rt: &R, alloc: Global, opened: Opened) -> Result<bool, Me
 /// Whether a client of a cluster gets what it put, and both operations are in the trace in the end.
 pub fn answers<R: Wait>(rt: &R, alloc: Global) -> Result<bool, Memory> {
     match opened(alloc)? {
-        Some(opened) => is_told_in(rt, alloc, opened),
+        Some(opened) => is_reported_in(rt, alloc, opened),
         None => Ok(false),
     }
 }

@@ -1,6 +1,6 @@
 //! The events of a world.
 
-use cops_command::reported;
+use cops_command::report_of;
 use cops_core::{Event, Setting, World};
 use cops_node::Outcome;
 use cops_scenario::{Scenario, ScenarioFault, outcome_line};
@@ -27,7 +27,7 @@ fn answered(world: &mut World, event: &Event) -> Outcome {
 }
 
 /// A line for the answer to each event, and then the report on what the clients saw.
-fn told(alloc: Global, world: &mut World, events: &[Event]) -> Result<Vec<u8>, Memory> {
+fn reported(alloc: Global, world: &mut World, events: &[Event]) -> Result<Vec<u8>, Memory> {
     let mut text = Vec::new(alloc);
     for n in 0..events.len() {
         let outcome = answered(world, &events[n]);
@@ -35,24 +35,24 @@ fn told(alloc: Global, world: &mut World, events: &[Event]) -> Result<Vec<u8>, M
         drop(outcome);
         line?;
     }
-    text.extend_from_slice(&reported(alloc, world.history())?)?;
+    text.extend_from_slice(&report_of(alloc, world.history())?)?;
     Ok(text)
 }
 
-/// Like `told`, in a new world of a setting.
-fn told_in(alloc: Global, setting: Setting, events: &[Event]) -> Result<Vec<u8>, Memory> {
+/// Like `reported`, in a new world of a setting.
+fn reported_in(alloc: Global, setting: Setting, events: &[Event]) -> Result<Vec<u8>, Memory> {
     let mut world = World::of(alloc, setting)?;
-    let told = told(alloc, &mut world, events);
+    let reported = reported(alloc, &mut world, events);
     drop(world);
-    told
+    reported
 }
 
 /// Whether the events of a scenario give the expected lines.
-fn tells(alloc: Global, scenario: &Scenario, wanted: &[u8]) -> Result<bool, Memory> {
+fn reports(alloc: Global, scenario: &Scenario, wanted: &[u8]) -> Result<bool, Memory> {
     let Some(events) = scenario.events() else {
         return Ok(false);
     };
-    let text = told_in(alloc, scenario.setting(alloc)?, events)?;
+    let text = reported_in(alloc, scenario.setting(alloc)?, events)?;
     Ok(text.as_slice() == wanted)
 }
 
@@ -60,9 +60,9 @@ fn tells(alloc: Global, scenario: &Scenario, wanted: &[u8]) -> Result<bool, Memo
 pub fn happens(alloc: Global, bytes: &[u8], wanted: &[u8]) -> Result<bool, Memory> {
     match Scenario::from_json(alloc, bytes) {
         Ok(scenario) => {
-            let tells = tells(alloc, &scenario, wanted);
+            let reports = reports(alloc, &scenario, wanted);
             drop(scenario);
-            tells
+            reports
         }
         Err(ScenarioFault::Memory) => Err(Memory),
         Err(_) => Ok(false),

@@ -2,13 +2,13 @@
 //!
 //! `rows FILE..` makes the calls of test cases and compares their answers with the expected ones.
 //! `node PAIRS TURNS AMONG`, `world FILE MODE DATA_CENTRES CLIENTS` and `online TRACE MODE` are for scripts in
-//! `bench/`, which time a node, a world and the online auditor. `growths SCENARIO LINES TRACE LINES` is for
-//! `tests/growths.py`, which makes allocations fail one after the other. Without words it does nothing.
+//! `bench/`, which time a node, a world and the online auditor. `allocations SCENARIO LINES TRACE LINES` is for
+//! `tests/allocations.py`, which makes allocations fail one after the other. Without words it does nothing.
 #![tactic(auto)]
 
+mod allocations;
 mod auditing;
 mod clustering;
-mod growths;
 mod happening;
 mod node;
 mod online;
@@ -50,7 +50,7 @@ fn perform<R: Files + Threads + Wait + Sync + Print + AllocGlobal>(
         "node" => time_node(rt, rest),
         "world" => time_world(rt, rest),
         "online" => online::say(rt, rest),
-        "growths" => growths::say(rt, rest),
+        "growths" => allocations::say(rt, rest),
         _ => Ok(()),
     }
 }

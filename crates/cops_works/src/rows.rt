@@ -26,7 +26,7 @@ use std::fs;
 use std::rt::Files;
 
 /// The answer to a case's call, or the text of its error.
-fn told(alloc: Global, subjects: &mut Subjects, call: &str) -> Result<String, Error> {
+fn reported(alloc: Global, subjects: &mut Subjects, call: &str) -> Result<String, Error> {
     let words: Vec<&str> = call.split(' ').collect(alloc)?;
     match subjects.answer(alloc, &words) {
         Ok(text) => Ok(text),
@@ -48,7 +48,7 @@ fn unlike<'a>(alloc: Global, got: &'a str, wanted: &'a str) -> Result<String, Er
 fn difference(alloc: Global, subjects: &mut Subjects, row: &str) -> Result<String, Error> {
     match row.split_once(" = ") {
         Some((call, wanted)) => {
-            let got = told(alloc, subjects, call)?;
+            let got = reported(alloc, subjects, call)?;
             unlike(alloc, &got, wanted)
         }
         None => word(alloc, "got: not a row"),

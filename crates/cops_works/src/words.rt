@@ -4,17 +4,17 @@ mod hex;
 mod nodes;
 mod outcomes;
 mod reading;
-mod telling;
+mod reporting;
 mod texts;
 mod worlds;
 
 pub use hex::{bytes, digits};
 pub use nodes::node_event;
-pub use outcomes::{outcome, outcome_text, told_outcome};
+pub use outcomes::{outcome, outcome_text, reported_outcome};
 pub use reading::{
     deps, format_of, key, keys, mark, no_node, no_row, only_key, only_version, op, pair, parts,
     put, u8_of, u16_of, u32_of, u64_of, usize_of, value, version, version_of,
 };
-pub use telling::{op_text, pair_text, session_text, value_at, yes_or_no};
+pub use reporting::{op_text, pair_text, session_text, value_at, yes_or_no};
 pub use texts::{Part, add_behind, line_of, lossy, text, word};
 pub use worlds::world_event;

@@ -35,13 +35,13 @@ fn word(outcome: &Outcome, of: Version) -> &'static str {
 }
 
 /// The word for an answer. Drops the answer.
-pub fn told(answer: Result<Outcome, GateHeld>, of: Version) -> &'static str {
-    let told = match &answer {
+pub fn reported(answer: Result<Outcome, GateHeld>, of: Version) -> &'static str {
+    let reported = match &answer {
         Ok(outcome) => word(outcome, of),
         Err(GateHeld) => "held",
     };
     drop(answer);
-    told
+    reported
 }
 
 /// The word for the answer to a put of 1 at a key, which should get this version.
@@ -55,7 +55,7 @@ fn put<R: Wait, G: Gate>(
     of: Version,
 ) -> Result<&'static str, TypeFault> {
     let (key, value) = pair(alloc, byte)?;
-    Ok(told(cluster.put(rt, client, gate, key, value), of))
+    Ok(reported(cluster.put(rt, client, gate, key, value), of))
 }
 
 /// The word for the answer to a deletion of a key, which should get this version.
@@ -68,7 +68,7 @@ fn del<R: Wait>(
     of: Version,
 ) -> Result<&'static str, TypeFault> {
     let key = key(alloc, byte)?;
-    Ok(told(cluster.del(rt, client, &OpenGate, key), of))
+    Ok(reported(cluster.del(rt, client, &OpenGate, key), of))
 }
 
 /// The word for the answer to a get of a key, which should find this version.
@@ -81,7 +81,7 @@ fn get<R: Wait>(
     of: Version,
 ) -> Result<&'static str, TypeFault> {
     let key = key(alloc, byte)?;
-    Ok(told(cluster.get(rt, client, &OpenGate, key), of))
+    Ok(reported(cluster.get(rt, client, &OpenGate, key), of))
 }
 
 /// A client gets what it put, and finds nothing at another key.
@@ -115,9 +115,9 @@ fn only_client_gets<R: Wait + Abort>(
 #[test]
 fn a_client_gets_what_it_put(rt: HostRuntime) -> Result<(), Fail> {
     let mut opened = opened(rt.alloc(), 1, false, &[0])?;
-    let told = only_client_gets(&rt, rt.alloc(), &mut opened);
+    let reported = only_client_gets(&rt, rt.alloc(), &mut opened);
     drop(opened);
-    Ok(told?)
+    Ok(reported?)
 }
 
 /// A client gets a key that it deleted as gone, even one that it never put, and then puts again.
@@ -173,9 +173,9 @@ fn only_client_deletes<R: Wait + Abort>(
 fn a_client_deletes_in_format_2(rt: HostRuntime) -> Result<(), Fail> {
     for format in [Format::One, Format::Two] {
         let mut opened = opened_in(format, rt.alloc(), 1, &[0])?;
-        let told = only_client_deletes(&rt, rt.alloc(), format, &mut opened);
+        let reported = only_client_deletes(&rt, rt.alloc(), format, &mut opened);
         drop(opened);
-        told?;
+        reported?;
     }
     Ok(())
 }
@@ -341,7 +341,7 @@ fn deliver<R: Wait>(
     of: Version,
 ) -> Result<&'static str, TypeFault> {
     let put = put_of(alloc, byte, of, byte == b'y')?;
-    Ok(told(cluster.deliver(rt, share, &OpenGate, 1, put), of))
+    Ok(reported(cluster.deliver(rt, share, &OpenGate, 1, put), of))
 }
 
 /// The word for the answer when the put of a version is settled in a data centre.
@@ -352,7 +352,7 @@ fn settle<R: Wait>(
     dc: u8,
     of: Version,
 ) -> &'static str {
-    told(cluster.settle(rt, share, &OpenGate, dc, of), of)
+    reported(cluster.settle(rt, share, &OpenGate, dc, of), of)
 }
 
 /// A word for the answer to a question. Drops the answer.
@@ -421,9 +421,9 @@ fn comes_over<R: Wait + Abort>(
 #[test]
 fn a_put_comes_into_another_data_centre(rt: HostRuntime) -> Result<(), Fail> {
     let mut opened = opened(rt.alloc(), 2, false, &[0, 1])?;
-    let told = comes_over(&rt, rt.alloc(), &mut opened);
+    let reported = comes_over(&rt, rt.alloc(), &mut opened);
     drop(opened);
-    Ok(told?)
+    Ok(reported?)
 }
 
 /// A deletion of x at this version, which depends on nothing.
@@ -453,7 +453,7 @@ fn deletion_comes_over<R: Wait + Abort>(
     assert!(*rt; clients.len() == 1 && shares.len() == 2);
     let deletion = deletion_of_x(alloc, of)?;
     let share = &mut shares[1];
-    assert!(*rt; told(cluster.deliver(rt, share, &OpenGate, 1, deletion), of) == "waits");
+    assert!(*rt; reported(cluster.deliver(rt, share, &OpenGate, 1, deletion), of) == "waits");
     assert!(*rt; get(rt, alloc, cluster, &mut clients[0], b'x', of)? == "missed");
     assert!(*rt; settle(rt, cluster, share, 1, of) == "settled");
     assert!(*rt; get(rt, alloc, cluster, &mut clients[0], b'x', of)? == "gone");
@@ -464,9 +464,9 @@ fn deletion_comes_over<R: Wait + Abort>(
 #[test]
 fn a_deletion_comes_into_another_data_centre(rt: HostRuntime) -> Result<(), Fail> {
     let mut opened = opened_in(Format::Two, rt.alloc(), 2, &[1])?;
-    let told = deletion_comes_over(&rt, rt.alloc(), &mut opened);
+    let reported = deletion_comes_over(&rt, rt.alloc(), &mut opened);
     drop(opened);
-    Ok(told?)
+    Ok(reported?)
 }
 
 fn yes_of(asked: Result<Asked, GateHeld>) -> Result<Yes, Fail> {
@@ -506,7 +506,7 @@ fn mark_y<R: Wait>(
     y: Version,
     yes: &Yes,
 ) -> &'static str {
-    told(cluster.mark(rt, share, &OpenGate, 1, y, 0, yes), y)
+    reported(cluster.mark(rt, share, &OpenGate, 1, y, 0, yes), y)
 }
 
 /// Whether the answer is refused since it is not for the one dependency of y, and the share gains nothing.
@@ -538,9 +538,9 @@ fn mark_y_by_x<R: Wait>(
     y: Version,
 ) -> Result<&'static str, Fail> {
     let yes = settled(rt, alloc, cluster, share, 1, b'x', Version::new(1, 0)?)?;
-    let told = mark_y(rt, cluster, share, y, &yes);
+    let reported = mark_y(rt, cluster, share, y, &yes);
     drop(yes);
-    Ok(told)
+    Ok(reported)
 }
 
 /// A node at which y at 2.0 waits for x at 1.0.

@@ -176,7 +176,7 @@ impl Scene {
 
     /// The results of three turns of the receiver, what the reader then finds at the key, and the number of entries of
     /// the share.
-    fn told<R: Wait>(&mut self, rt: &R, alloc: Global, byte: u8) -> [u32; 5] {
+    fn reported<R: Wait>(&mut self, rt: &R, alloc: Global, byte: u8) -> [u32; 5] {
         let [first, second, third] = self.turns(rt, &OpenGate);
         let shown = self.shows(rt, alloc, byte);
         [first, second, third, shown, self.entries()]
@@ -251,12 +251,12 @@ impl Both {
     /// and a turn of the sender.
     fn one_by_one<R: Wait>(&mut self, rt: &R) -> [u32; 6] {
         let [first, second] = self.sends(rt);
-        let mut told = [first, second, self.drain(rt, 2), 0, 0, 0];
+        let mut reported = [first, second, self.drain(rt, 2), 0, 0, 0];
         for k in 3..6 {
             let drained = self.scene.drain(rt, &OpenGate, 9);
-            told[k] = drained.saturating_add(self.send(rt));
+            reported[k] = drained.saturating_add(self.send(rt));
         }
-        told
+        reported
     }
 
     /// Makes at most `turns` turns of the sender, until nothing is left to send.
@@ -303,7 +303,7 @@ fn sent_backwards<R: Wait>(
 fn come_over<R: Wait>(rt: &R, alloc: Global, joined: &mut Both) -> Result<bool, TypeFault> {
     joined.scene.put_all(rt, alloc, b"xy")?;
     let sent = joined.sends(rt);
-    Ok(sent == [2, 0] && joined.scene.told(rt, alloc, b'y') == [2, 3, 0, 1, 6])
+    Ok(sent == [2, 0] && joined.scene.reported(rt, alloc, b'y') == [2, 3, 0, 1, 6])
 }
 
 #[test]
@@ -324,7 +324,7 @@ fn deletion_comes_over<R: Wait>(
     joined.scene.put(rt, alloc, b'x')?;
     joined.scene.del(rt, alloc, b'x')?;
     let sent = joined.sends(rt);
-    Ok(sent == [2, 0] && joined.scene.told(rt, alloc, b'x') == [2, 3, 0, 2, 6])
+    Ok(sent == [2, 0] && joined.scene.reported(rt, alloc, b'x') == [2, 3, 0, 2, 6])
 }
 
 #[test]
@@ -338,7 +338,7 @@ fn a_deletion_comes_into_the_other_data_centre(rt: HostRuntime) -> Result<(), Fa
 
 /// Whether a put waits in one turn for the put that comes after it, and is settled in the next.
 fn waits<R: Wait>(rt: &R, alloc: Global, scene: &mut Scene) -> bool {
-    scene.told(rt, alloc, b'y') == [1, 4, 0, 1, 7]
+    scene.reported(rt, alloc, b'y') == [1, 4, 0, 1, 7]
 }
 
 #[test]
@@ -403,9 +403,9 @@ fn are_in_order(entries: &[Made], last: u64) -> bool {
 /// Whether three puts arrive one by one, in order.
 fn come_in_order<R: Wait>(rt: &R, alloc: Global, joined: &mut Both) -> Result<bool, TypeFault> {
     joined.scene.put_all(rt, alloc, b"abc")?;
-    let told = joined.one_by_one(rt);
+    let reported = joined.one_by_one(rt);
     let in_order = are_in_order(joined.scene.receiver.share().entries(), 3);
-    Ok(told == [1, 0, TURN_LIMIT, 1, 1, 0] && in_order)
+    Ok(reported == [1, 0, TURN_LIMIT, 1, 1, 0] && in_order)
 }
 
 #[test]
@@ -430,7 +430,7 @@ fn held<R: Wait>(rt: &R, scene: &mut Scene) -> [u32; 2] {
 
 /// Whether both gates hold the receiver, and the steps that were held happen in the turns after.
 fn loses_nothing<R: Wait>(rt: &R, alloc: Global, scene: &mut Scene) -> bool {
-    held(rt, scene) == [HELD, HELD] && scene.told(rt, alloc, b'y') == [5, 0, 0, 1, 7]
+    held(rt, scene) == [HELD, HELD] && scene.reported(rt, alloc, b'y') == [5, 0, 0, 1, 7]
 }
 
 #[test]
@@ -494,9 +494,9 @@ fn left(both: Both) -> usize {
 #[test]
 fn what_is_not_there_is_drained(rt: HostRuntime) -> Result<(), Fail> {
     let mut joined = joined(rt.alloc(), 1)?;
-    let told = nothing(&rt, &mut joined);
+    let reported = nothing(&rt, &mut joined);
     let left = left(joined);
-    assert!(rt; told == [0, 0, 0]);
+    assert!(rt; reported == [0, 0, 0]);
     assert!(rt; left == 0);
     Ok(())
 }

@@ -1,5 +1,5 @@
 use crate::threads::building::*;
-use crate::threads::clients::told;
+use crate::threads::clients::reported;
 use cops_cluster::*;
 use cops_types::{Format, OpenGate, Value, Version};
 use std::alloc::Global;
@@ -18,7 +18,7 @@ fn put_long<R: Wait>(
     let key = key(alloc, b'x')?;
     let client = opened.clients.get_mut(0).ok_or("no client")?;
     let answer = opened.cluster.put(rt, client, &OpenGate, key, value);
-    Ok(told(answer, Version::new(1, 0)?))
+    Ok(reported(answer, Version::new(1, 0)?))
 }
 
 #[test]

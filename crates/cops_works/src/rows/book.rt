@@ -2,7 +2,7 @@
 
 use crate::words::Part::{At, Count, Number, Word};
 use crate::words::{
-    no_node, no_row, node_event, outcome_text, text, told_outcome, u16_of, u64_of, usize_of,
+    no_node, no_row, node_event, outcome_text, reported_outcome, text, u16_of, u64_of, usize_of,
 };
 use anyhow::{Error, bail};
 use cops_node::NodeEvent;
@@ -34,7 +34,7 @@ fn step(alloc: Global, book: &mut Book, words: &[&str]) -> Result<String, Error>
     };
     let ticket = u64_of(ticket)?;
     let event = node_event(alloc, rest)?;
-    told_outcome(alloc, book.step(ticket, event))
+    reported_outcome(alloc, book.step(ticket, event))
 }
 
 /// An event about a version.

@@ -7,7 +7,7 @@ use cops_types::{Clock, NODES};
 use std::alloc::Global;
 
 /// The clock's reading.
-fn told(alloc: Global, clock: &Clock) -> Result<String, Error> {
+fn reported(alloc: Global, clock: &Clock) -> Result<String, Error> {
     text(alloc, &[Word("at "), Number(clock.clock())])
 }
 
@@ -21,7 +21,7 @@ fn begin(alloc: Global, clock: &mut Clock, words: &[&str]) -> Result<String, Err
         return Err(no_node());
     }
     *clock = Clock::new(number);
-    told(alloc, clock)
+    reported(alloc, clock)
 }
 
 /// The answer to a call of one word, which no other word may follow.
@@ -31,7 +31,7 @@ fn ask(alloc: Global, clock: &mut Clock, what: &str, rest: &[&str]) -> Result<St
     }
     match what {
         "next" => text(alloc, &[At(clock.next()?)]),
-        "told" => told(alloc, clock),
+        "told" => reported(alloc, clock),
         _ => Err(no_row()),
     }
 }
@@ -45,7 +45,7 @@ pub fn answer(alloc: Global, clock: &mut Clock, words: &[&str]) -> Result<String
         "new" => begin(alloc, clock, rest),
         "raise" => {
             clock.raise(only_version(rest)?);
-            told(alloc, clock)
+            reported(alloc, clock)
         }
         what => ask(alloc, clock, what, rest),
     }

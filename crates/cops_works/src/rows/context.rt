@@ -30,9 +30,9 @@ fn pairs_text(alloc: Global, pairs: &[Dep]) -> Result<String, Error> {
 
 fn deps(alloc: Global, context: &Context) -> Result<String, Error> {
     let deps = context.deps()?;
-    let told = pairs_text(alloc, deps.as_slice());
+    let reported = pairs_text(alloc, deps.as_slice());
     drop(deps);
-    told
+    reported
 }
 
 /// Adds a pair, whether or not room was reserved for it.

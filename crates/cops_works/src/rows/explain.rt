@@ -24,18 +24,18 @@ fn read_asked(words: &[&str]) -> Result<Selection, Error> {
 }
 
 /// The lines of a text, with a `|` between each two.
-fn joined(alloc: Global, told: &str) -> Result<String, Error> {
+fn joined(alloc: Global, reported: &str) -> Result<String, Error> {
     let mut joined = String::new(alloc);
-    for line in told.lines() {
+    for line in reported.lines() {
         add_behind(&mut joined, "|", line)?;
     }
     Ok(joined)
 }
 
 /// The last line of a text.
-fn last_line(alloc: Global, told: &str) -> Result<String, Error> {
+fn last_line(alloc: Global, reported: &str) -> Result<String, Error> {
     let mut last = "";
-    for line in told.lines() {
+    for line in reported.lines() {
         last = line;
     }
     word(alloc, last)
@@ -45,13 +45,13 @@ fn last_line(alloc: Global, told: &str) -> Result<String, Error> {
 fn explained(alloc: Global, history: &History, words: &[&str]) -> Result<Vec<u8>, Error> {
     let asked = read_asked(words)?;
     let verdict = judge(alloc, history)?;
-    let told = explain(alloc, history, &verdict, asked);
+    let reported = explain(alloc, history, &verdict, asked);
     drop(verdict);
-    Ok(told?)
+    Ok(reported?)
 }
 
 /// The text of the explanation of a history.
-fn told(alloc: Global, history: &History, words: &[&str]) -> Result<String, Error> {
+fn reported(alloc: Global, history: &History, words: &[&str]) -> Result<String, Error> {
     let bytes = explained(alloc, history, words)?;
     lossy(alloc, &bytes)
 }
@@ -65,10 +65,10 @@ pub fn answer(alloc: Global, trace: &Option<Trace>, words: &[&str]) -> Result<St
         ["end", rest @ ..] => (true, rest),
         _ => (false, words),
     };
-    let told = told(alloc, trace.history(), words)?;
+    let reported = reported(alloc, trace.history(), words)?;
     if is_end {
-        last_line(alloc, &told)
+        last_line(alloc, &reported)
     } else {
-        joined(alloc, &told)
+        joined(alloc, &reported)
     }
 }

@@ -22,7 +22,7 @@ fn hold(alloc: Global, held: &mut Held, words: &[&str]) -> Result<String, Error>
 
 /// A fault's code and its text.
 fn refused(alloc: Global, fault: HeldFault) -> Result<String, Error> {
-    let told = format!(in alloc; "{fault}")?;
+    let reported = format!(in alloc; "{fault}")?;
     let code = match fault {
         HeldFault::NotHeld => 1,
         HeldFault::NoSuchDep => 2,
@@ -30,7 +30,7 @@ fn refused(alloc: Global, fault: HeldFault) -> Result<String, Error> {
     };
     text(
         alloc,
-        &[Word("refused "), Number(code), Word(": "), Word(&told)],
+        &[Word("refused "), Number(code), Word(": "), Word(&reported)],
     )
 }
 
@@ -63,9 +63,9 @@ fn put_text(alloc: Global, put: &PutRecord) -> Result<String, Error> {
 fn take(alloc: Global, held: &mut Held, words: &[&str]) -> Result<String, Error> {
     match held.take_ready(only_version(words)?) {
         Ok(put) => {
-            let told = put_text(alloc, &put);
+            let reported = put_text(alloc, &put);
             drop(put);
-            told
+            reported
         }
         Err(fault) => refused(alloc, fault),
     }

@@ -20,9 +20,9 @@ fn counts(alloc: Global, history: &History) -> Result<String, Error> {
 /// Replaces the history by a new one.
 fn begin(alloc: Global, history: &mut Option<History>, clients: &str) -> Result<String, Error> {
     let opened = History::new(alloc, u16_of(clients)?)?;
-    let told = counts(alloc, &opened);
+    let reported = counts(alloc, &opened);
     drop(history.replace(opened));
-    told
+    reported
 }
 
 fn reserve(alloc: Global, history: &mut History, words: &[&str]) -> Result<String, Error> {

@@ -2,8 +2,8 @@
 
 use crate::words::Part::{Number, Word};
 use crate::words::{
-    mark, no_node, no_row, node_event, only_key, pair_text, text, told_outcome, u16_of, value_at,
-    word,
+    mark, no_node, no_row, node_event, only_key, pair_text, reported_outcome, text, u16_of,
+    value_at, word,
 };
 use anyhow::Error;
 use cops_node::{Node, NodeEvent, Outcome};
@@ -51,12 +51,12 @@ fn taken(node: &mut Node, event: NodeEvent) -> Outcome {
 
 fn step(alloc: Global, node: &mut Node, words: &[&str]) -> Result<String, Error> {
     let event = node_event(alloc, words)?;
-    told_outcome(alloc, node.step(event))
+    reported_outcome(alloc, node.step(event))
 }
 
 fn call(alloc: Global, node: &mut Node, words: &[&str]) -> Result<String, Error> {
     let event = node_event(alloc, words)?;
-    told_outcome(alloc, taken(node, event))
+    reported_outcome(alloc, taken(node, event))
 }
 
 /// The node's clock, and the counts of its parts.
@@ -80,12 +80,12 @@ fn status(alloc: Global, node: &Node, words: &[&str]) -> Result<String, Error> {
 
 fn shown(alloc: Global, node: &Node, words: &[&str]) -> Result<String, Error> {
     let key = only_key(alloc, words)?;
-    let told = match node.shown(&key) {
+    let reported = match node.shown(&key) {
         Some((value, version)) => value_at(alloc, value, version),
         None => word(alloc, "nothing"),
     };
     drop(key);
-    told
+    reported
 }
 
 fn dep_of(alloc: Global, node: &Node, words: &[&str]) -> Result<String, Error> {

@@ -55,9 +55,9 @@ fn copy_node(alloc: Global, place: &Place, words: &[&str]) -> Result<String, Err
         return Err(no_row());
     };
     let copy = place.clone()?;
-    let told = node(alloc, &copy, rest);
+    let reported = node(alloc, &copy, rest);
     drop(copy);
-    told
+    reported
 }
 
 /// Replaces the place by a new one.
@@ -68,9 +68,9 @@ fn begin(
     splits: &str,
 ) -> Result<String, Error> {
     let opened = open(alloc, dcs, splits)?;
-    let told = counts(alloc, &opened);
+    let reported = counts(alloc, &opened);
     drop(place.replace(opened));
-    told
+    reported
 }
 
 /// The answer to a call on the current place.

@@ -30,9 +30,9 @@ fn counts(alloc: Global, scenario: &Scenario) -> Result<String, Error> {
 /// Replaces the scenario by the one in a text.
 fn begin(alloc: Global, scenario: &mut Option<Scenario>, text: &str) -> Result<String, Error> {
     let read = Scenario::from_json(alloc, text.as_bytes())?;
-    let told = counts(alloc, &read);
+    let reported = counts(alloc, &read);
     drop(scenario.replace(read));
-    told
+    reported
 }
 
 /// Where a client lives, and how long its script is.
@@ -168,7 +168,7 @@ fn event(alloc: Global, scenario: &Scenario, words: &[&str]) -> Result<String, E
 }
 
 /// The line of an outcome, without its line feed.
-fn told(alloc: Global, number: usize, outcome: &Outcome) -> Result<String, Error> {
+fn reported(alloc: Global, number: usize, outcome: &Outcome) -> Result<String, Error> {
     let mut bytes = Vec::new(alloc);
     outcome_line(alloc, number, outcome, &mut bytes)?;
     line_of(alloc, &bytes)
@@ -177,9 +177,9 @@ fn told(alloc: Global, number: usize, outcome: &Outcome) -> Result<String, Error
 fn line(alloc: Global, number: &str, words: &[&str]) -> Result<String, Error> {
     let number = usize_of(number)?;
     let outcome = outcome(alloc, words)?;
-    let told = told(alloc, number, &outcome);
+    let reported = reported(alloc, number, &outcome);
     drop(outcome);
-    told
+    reported
 }
 
 /// The answer to a call of one word, which no other word may follow.

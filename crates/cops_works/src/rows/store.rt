@@ -13,20 +13,20 @@ fn counts(alloc: Global, store: &Store) -> Result<String, Error> {
     text(alloc, &[keys, Word(" keys, "), pairs, Word(" pairs")])
 }
 
-fn told(alloc: Global, settled: Settled) -> Result<String, Error> {
-    let told = match settled {
+fn reported(alloc: Global, settled: Settled) -> Result<String, Error> {
+    let reported = match settled {
         Settled::Shown => "Shown",
         Settled::Older => "Older",
         Settled::Repeat => "Repeat",
     };
-    word(alloc, told)
+    word(alloc, reported)
 }
 
 /// Settles a put `KEY VALUE VERSION`, or a deletion `KEY VERSION`.
 fn settle(alloc: Global, store: &mut Store, words: &[&str]) -> Result<String, Error> {
     if let [_, _] = words {
         let Dep { key, version } = pair(alloc, words)?;
-        return told(alloc, store.settle(key, None, version)?);
+        return reported(alloc, store.settle(key, None, version)?);
     }
     let [name, bytes, at] = words else {
         return Err(no_row());
@@ -34,7 +34,7 @@ fn settle(alloc: Global, store: &mut Store, words: &[&str]) -> Result<String, Er
     let version = version(at)?;
     let key = key(alloc, name)?;
     let value = value(alloc, bytes)?;
-    told(alloc, store.settle(key, Some(value), version)?)
+    reported(alloc, store.settle(key, Some(value), version)?)
 }
 
 fn has(alloc: Global, store: &Store, words: &[&str]) -> Result<String, Error> {
@@ -46,12 +46,12 @@ fn has(alloc: Global, store: &Store, words: &[&str]) -> Result<String, Error> {
 
 fn get(alloc: Global, store: &Store, words: &[&str]) -> Result<String, Error> {
     let key = only_key(alloc, words)?;
-    let told = match store.get(&key) {
+    let reported = match store.get(&key) {
         Some((value, version)) => value_at(alloc, value, version),
         None => word(alloc, "nothing"),
     };
     drop(key);
-    told
+    reported
 }
 
 /// The answer to a call of one word, which no other word may follow.

@@ -1,6 +1,6 @@
 //! The values on which test cases act.
 
-use crate::rows::tie::Run;
+use crate::rows::tie::TieRun;
 use crate::rows::{
     book, clock, context, explain, held, history, node, place, scenario, store, tie, trace, types,
     wire, world,
@@ -66,7 +66,7 @@ impl Nodes {
 #[derive(Drop)]
 struct Worlds {
     place: Option<Place>,
-    run: Option<Run>,
+    run: Option<TieRun>,
     scenario: Option<Scenario>,
     world: Option<World>,
 }

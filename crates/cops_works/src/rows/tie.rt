@@ -14,17 +14,17 @@ use std::slice;
 
 /// The book of a scenario's one node, and what its clients saw.
 #[derive(Drop)]
-pub struct Run {
+pub struct TieRun {
     setting: Setting,
     book: Vec<Entry>,
     trace: Trace,
 }
 
 /// A run of a scenario before the first event.
-fn run_of(alloc: Global, scenario: &Scenario) -> Result<Run, Error> {
+fn run_of(alloc: Global, scenario: &Scenario) -> Result<TieRun, Error> {
     let trace = Trace::new_in(scenario.format(), alloc, scenario.clients().len() as u16)?;
     let setting = scenario.setting(alloc)?;
-    Ok(Run {
+    Ok(TieRun {
         setting,
         book: Vec::new(alloc),
         trace,
@@ -32,7 +32,7 @@ fn run_of(alloc: Global, scenario: &Scenario) -> Result<Run, Error> {
 }
 
 /// Like `run_of`, of the scenario in a text.
-fn open(alloc: Global, text: &str) -> Result<Run, Error> {
+fn open(alloc: Global, text: &str) -> Result<TieRun, Error> {
     let scenario = Scenario::from_json(alloc, text.as_bytes())?;
     let run = run_of(alloc, &scenario);
     drop(scenario);
@@ -40,15 +40,15 @@ fn open(alloc: Global, text: &str) -> Result<Run, Error> {
 }
 
 /// Replaces the run by a new one.
-fn begin(alloc: Global, run: &mut Option<Run>, text: &str) -> Result<String, Error> {
+fn begin(alloc: Global, run: &mut Option<TieRun>, text: &str) -> Result<String, Error> {
     drop(run.replace(open(alloc, text)?));
     word(alloc, "opened")
 }
 
 /// An entry of a ticket, of an event and of an outcome.
-fn made(alloc: Global, ticket: u64, event: &[&str], told: &[&str]) -> Result<Entry, Error> {
+fn made(alloc: Global, ticket: u64, event: &[&str], reported: &[&str]) -> Result<Entry, Error> {
     let event = node_event(alloc, event)?;
-    match outcome(alloc, told) {
+    match outcome(alloc, reported) {
         Ok(outcome) => Ok(Entry {
             ticket,
             event,
@@ -91,7 +91,7 @@ fn record(alloc: Global, trace: &mut Trace, words: &[&str]) -> Result<String, Er
 }
 
 /// The number of events in the book, if it ties.
-fn tied(alloc: Global, run: &Run, words: &[&str]) -> Result<String, Error> {
+fn tied(alloc: Global, run: &TieRun, words: &[&str]) -> Result<String, Error> {
     if !words.is_empty() {
         return Err(no_row());
     }
@@ -106,7 +106,7 @@ fn tied(alloc: Global, run: &Run, words: &[&str]) -> Result<String, Error> {
 }
 
 /// The answer to a call on the current run.
-fn ask_any(alloc: Global, run: &mut Run, words: &[&str]) -> Result<String, Error> {
+fn ask_any(alloc: Global, run: &mut TieRun, words: &[&str]) -> Result<String, Error> {
     let [what, rest @ ..] = words else {
         return Err(no_row());
     };
@@ -119,7 +119,7 @@ fn ask_any(alloc: Global, run: &mut Run, words: &[&str]) -> Result<String, Error
 }
 
 /// The answer to a call.
-pub fn answer(alloc: Global, run: &mut Option<Run>, words: &[&str]) -> Result<String, Error> {
+pub fn answer(alloc: Global, run: &mut Option<TieRun>, words: &[&str]) -> Result<String, Error> {
     if let ["new", text] = words {
         return begin(alloc, run, text);
     }

@@ -23,9 +23,9 @@ fn counts(alloc: Global, trace: &Trace) -> Result<String, Error> {
 
 /// Keeps a trace.
 fn kept(alloc: Global, trace: &mut Option<Trace>, read: Trace) -> Result<String, Error> {
-    let told = counts(alloc, &read);
+    let reported = counts(alloc, &read);
     drop(trace.replace(read));
-    told
+    reported
 }
 
 /// Begins an empty trace with a number of clients, of format 1 or of the format that follows the number.
@@ -110,10 +110,10 @@ fn whole(alloc: Global, bytes: &[u8]) -> Result<Partial, Error> {
 }
 
 fn partial_text(alloc: Global, partial: &Partial) -> Result<String, Error> {
-    let told = counts(alloc, &partial.trace)?;
+    let reported = counts(alloc, &partial.trace)?;
     match partial.cut {
-        Some(offset) => text(alloc, &[Word(&told), Word(", cut at "), Number(offset)]),
-        None => Ok(told),
+        Some(offset) => text(alloc, &[Word(&reported), Word(", cut at "), Number(offset)]),
+        None => Ok(reported),
     }
 }
 
@@ -124,9 +124,9 @@ fn front(alloc: Global, words: &[&str]) -> Result<String, Error> {
     };
     let bytes = bytes(alloc, word)?;
     let partial = whole(alloc, &bytes)?;
-    let told = partial_text(alloc, &partial);
+    let reported = partial_text(alloc, &partial);
     drop(partial);
-    told
+    reported
 }
 
 /// The bytes of a trace.
@@ -164,8 +164,8 @@ fn short(alloc: Global, trace: &Trace, words: &[&str]) -> Result<String, Error> 
     let Some(fault) = fault else {
         return Ok(taken);
     };
-    let told = format!(in alloc; "{fault}")?;
-    short_line(alloc, &told, &taken)
+    let reported = format!(in alloc; "{fault}")?;
+    short_line(alloc, &reported, &taken)
 }
 
 /// Adds an operation to a trace. Fails if the trace's format does not have the operation.

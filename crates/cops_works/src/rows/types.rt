@@ -27,9 +27,9 @@ fn length(alloc: Global, bytes: &[u8]) -> Result<String, Error> {
 fn key_of(alloc: Global, words: &[&str]) -> Result<String, Error> {
     let letters = letters(alloc, words)?;
     let key = Key::new(alloc, &letters)?;
-    let told = length(alloc, key.as_bytes());
+    let reported = length(alloc, key.as_bytes());
     drop(key);
-    told
+    reported
 }
 
 /// The value with a number of bytes, in the named format or else in format 1.
@@ -41,9 +41,9 @@ fn value_of(alloc: Global, words: &[&str]) -> Result<String, Error> {
     };
     let letters = letters(alloc, &[count])?;
     let value = Value::new_in(format, alloc, &letters)?;
-    let told = length(alloc, value.as_bytes());
+    let reported = length(alloc, value.as_bytes());
     drop(value);
-    told
+    reported
 }
 
 /// Whether two keys are equal, or one is less than the other.
@@ -109,8 +109,8 @@ fn name(alloc: Global, words: &[&str]) -> Result<String, Error> {
     };
     let name = history::name(&[*client, *index])?;
     let version = version(at)?;
-    let told = format!(in alloc; "{name}")?;
-    text(alloc, &[Word(&told), Word(" at "), At(version)])
+    let reported = format!(in alloc; "{name}")?;
+    text(alloc, &[Word(&reported), Word(" at "), At(version)])
 }
 
 fn pairs(alloc: Global, words: &[&str]) -> Result<String, Error> {
@@ -129,9 +129,9 @@ fn op_copy(alloc: Global, words: &[&str]) -> Result<String, Error> {
     let copy: Result<_, _> = op.clone();
     drop(op);
     let copy = copy?;
-    let told = op_text(alloc, &copy.as_ref());
+    let reported = op_text(alloc, &copy.as_ref());
     drop(copy);
-    told
+    reported
 }
 
 fn pair_copy(alloc: Global, words: &[&str]) -> Result<String, Error> {
@@ -139,9 +139,9 @@ fn pair_copy(alloc: Global, words: &[&str]) -> Result<String, Error> {
     let copy: Result<_, _> = pair.clone();
     drop(pair);
     let copy = copy?;
-    let told = pair_text(alloc, &copy);
+    let reported = pair_text(alloc, &copy);
     drop(copy);
-    told
+    reported
 }
 
 fn copied(alloc: Global, words: &[&str]) -> Result<String, Error> {

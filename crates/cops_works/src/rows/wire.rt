@@ -19,7 +19,7 @@ fn line(alloc: Global, message: &Message) -> Result<String, Error> {
 }
 
 /// The frame of a format at the front of the bytes of a word.
-fn front_in(alloc: Global, format: Format, word: &str) -> Result<Decoded, Error> {
+fn prefix_in(alloc: Global, format: Format, word: &str) -> Result<Decoded, Error> {
     let bytes = bytes(alloc, word)?;
     Ok(decode_in(format, alloc, &bytes)?)
 }
@@ -27,7 +27,7 @@ fn front_in(alloc: Global, format: Format, word: &str) -> Result<Decoded, Error>
 /// The frame at the front of the bytes of one word, in format 1, or in the format of the word before it.
 fn front(alloc: Global, words: &[&str]) -> Result<Decoded, Error> {
     if let [format, word] = words {
-        return front_in(alloc, format_of(format)?, word);
+        return prefix_in(alloc, format_of(format)?, word);
     }
     let [word] = words else {
         return Err(no_row());
@@ -63,21 +63,21 @@ fn measures(alloc: Global, words: &[&str]) -> Result<String, Error> {
 }
 
 /// The bytes of a message.
-fn spelled(alloc: Global, message: &Message) -> Result<Vec<u8>, Error> {
+fn encoded(alloc: Global, message: &Message) -> Result<Vec<u8>, Error> {
     if !legal_in(Format::Two, message) {
         bail!("not legal");
     }
-    let mut spelling = Vec::new(alloc);
-    encode(message, &mut spelling)?;
-    Ok(spelling)
+    let mut encoding = Vec::new(alloc);
+    encode(message, &mut encoding)?;
+    Ok(encoding)
 }
 
 /// The encoding of the message at the front.
-fn spell(alloc: Global, words: &[&str]) -> Result<String, Error> {
+fn encoded_message(alloc: Global, words: &[&str]) -> Result<String, Error> {
     let front = front(alloc, words)?;
-    let spelling = spelled(alloc, &front.message);
+    let encoding = encoded(alloc, &front.message);
     drop(front);
-    digits(alloc, &spelling?)
+    digits(alloc, &encoding?)
 }
 
 /// Adds the line of a message that was complete after `count` bytes.
@@ -196,7 +196,7 @@ fn is_in_format(alloc: Global, words: &[&str]) -> Result<String, Error> {
         return Err(no_row());
     };
     let format = format_of(format)?;
-    let front = front_in(alloc, Format::Two, word)?;
+    let front = prefix_in(alloc, Format::Two, word)?;
     let is = legal_in(format, &front.message);
     drop(front);
     yes_or_no(alloc, is)
@@ -239,7 +239,7 @@ pub fn answer(alloc: Global, feeder: &mut Feeder, words: &[&str]) -> Result<Stri
         "flood" => flood(alloc, feeder, rest),
         "show" => show_frame(alloc, rest),
         "decode" => measures(alloc, rest),
-        "spell" => spell(alloc, rest),
+        "spell" => encoded_message(alloc, rest),
         "legal" => is_legal(alloc, rest),
         "in" => is_in_format(alloc, rest),
         _ => Err(no_row()),

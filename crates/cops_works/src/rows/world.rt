@@ -3,8 +3,8 @@
 use crate::rows::place;
 use crate::words::Part::{Count, Word};
 use crate::words::{
-    add_behind, format_of, no_row, outcome_text, parts, session_text, text, told_outcome, u8_of,
-    u32_of, world_event,
+    add_behind, format_of, no_row, outcome_text, parts, reported_outcome, session_text, text,
+    u8_of, u32_of, world_event,
 };
 use anyhow::{Error, bail};
 use cops_core::{Event, World};
@@ -56,7 +56,7 @@ fn begin(
 
 fn apply(alloc: Global, world: &mut World, words: &[&str]) -> Result<String, Error> {
     let event = world_event(alloc, words)?;
-    told_outcome(alloc, world.apply(event))
+    reported_outcome(alloc, world.apply(event))
 }
 
 /// Applies an event `count` times, and returns the last outcome.
@@ -77,7 +77,7 @@ fn again(alloc: Global, world: &mut World, words: &[&str]) -> Result<String, Err
     let event = world_event(alloc, rest)?;
     let last = last(world, count, &event);
     drop(event);
-    told_outcome(alloc, last)
+    reported_outcome(alloc, last)
 }
 
 /// The events of words, separated by `/`.
@@ -105,9 +105,9 @@ fn run(alloc: Global, world: &mut World, words: &[&str]) -> Result<String, Error
     let outcomes = world.run(&events);
     drop(events);
     let outcomes = outcomes?;
-    let told = outcomes_text(alloc, &outcomes);
+    let reported = outcomes_text(alloc, &outcomes);
     drop(outcomes);
-    told
+    reported
 }
 
 /// How many operations the clients saw.

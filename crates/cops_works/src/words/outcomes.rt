@@ -49,10 +49,10 @@ pub fn outcome_text(alloc: Global, outcome: &Outcome) -> Result<String, Error> {
 }
 
 /// The words of an outcome, which is consumed.
-pub fn told_outcome(alloc: Global, outcome: Outcome) -> Result<String, Error> {
-    let told = outcome_text(alloc, &outcome);
+pub fn reported_outcome(alloc: Global, outcome: Outcome) -> Result<String, Error> {
+    let reported = outcome_text(alloc, &outcome);
     drop(outcome);
-    told
+    reported
 }
 
 fn done(words: &[&str]) -> Result<Outcome, Error> {

@@ -120,7 +120,7 @@ pub fn pair(alloc: Global, words: &[&str]) -> Result<Dep, Error> {
 }
 
 /// The pair `KEY@VERSION`.
-fn told_pair(alloc: Global, word: &str) -> Result<Dep, Error> {
+fn reported_pair(alloc: Global, word: &str) -> Result<Dep, Error> {
     match word.split_once('@') {
         Some((name, at)) => pair(alloc, &[name, at]),
         None => Err(no_row()),
@@ -131,8 +131,8 @@ fn told_pair(alloc: Global, word: &str) -> Result<Dep, Error> {
 pub fn deps(alloc: Global, word: &str) -> Result<Deps, Error> {
     let mut pairs = Vec::new(alloc);
     if word != "-" {
-        for told in word.split(',') {
-            pairs.push(told_pair(alloc, told)?)?;
+        for reported in word.split(',') {
+            pairs.push(reported_pair(alloc, reported)?)?;
         }
     }
     Ok(Deps::new(pairs)?)

@@ -25,13 +25,13 @@ fn push_number(alloc: Global, text: &mut String, number: u64) -> Result<(), Erro
 }
 
 fn push_version(alloc: Global, text: &mut String, version: Version) -> Result<(), Error> {
-    let told = format!(in alloc; "{version}")?;
-    Ok(text.push_str(&told)?)
+    let reported = format!(in alloc; "{version}")?;
+    Ok(text.push_str(&reported)?)
 }
 
 fn push_bytes(alloc: Global, text: &mut String, bytes: &[u8]) -> Result<(), Error> {
-    let told = String::from_utf8_lossy(alloc, bytes)?;
-    Ok(text.push_str(&told)?)
+    let reported = String::from_utf8_lossy(alloc, bytes)?;
+    Ok(text.push_str(&reported)?)
 }
 
 fn push(alloc: Global, text: &mut String, part: &Part) -> Result<(), Error> {

@@ -8,7 +8,7 @@ use Rattle.cops_audit.proofs.assessing.has_mismatched.Goals as goal
 use Rattle.cops_audit.proofs.assessing.has_mismatched.Goals.{then-is_sourceless+else-is_mismatched, else-is_sourceless}
 
 pub is_mismatched-requires-clause-sourceless : goal.is_mismatched-requires-clause-sourceless
-is_mismatched-requires-clause-sourceless c = (sourceless_same c.args.history.now.sessions c.args.table.now c.requires.table c.args.notes.now c.requires.notes _).0 (c.is_sourceless.ensures.0 c.if-is_sourceless.true)
+is_mismatched-requires-clause-sourceless c = (sourceless_same c.args.history.now.sessions c.args.table.now c.requires.table c.args.summaries.now c.requires.summaries _).0 (c.is_sourceless.ensures.0 c.if-is_sourceless.true)
 
 pub loop-got-preserved : goal.loop-got-preserved
 loop-got-preserved c =
@@ -17,7 +17,7 @@ loop-got-preserved c =
     (elim c.if-is_sourceless.branch [
       | then-is_sourceless+else-is_mismatched w ↦ λ _. w.is_mismatched.ensures.waiting (λ is. let f = w.if-is_mismatched.false in let t : w.is_mismatched.result ≡ true = is in cc)
       | else-is_sourceless w ↦ λ sourceless.
-          let is : c.is_sourceless.result ≡ true = c.is_sourceless.ensures.1 ((sourceless_same h c.args.table.now c.requires.table c.args.notes.now c.requires.notes _).1 sourceless) in
+          let is : c.is_sourceless.result ≡ true = c.is_sourceless.ensures.1 ((sourceless_same h c.args.table.now c.requires.table c.args.summaries.now c.requires.summaries _).1 sourceless) in
           let f = w.if-is_sourceless.false in
           absurd cc
     ])

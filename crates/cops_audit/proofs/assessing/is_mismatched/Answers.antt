@@ -32,8 +32,8 @@ returns-in-None-clause-waiting c = λ e.
     record {
       version = v;
       gets = c.in-Some.ensures.got;
-      none = λ put bears.
+      none = λ put has_version.
           let d : VersionedPut = record { version = v; name = put } in
-          let at = place_of_put h c.args.table.now c.requires.table.table put v bears in
+          let at = place_of_put h c.args.table.now c.requires.table.table put v has_version in
           c.in-None.ensures.none at.0 d at.1 (ap (λ (q : VersionedPut). q.version) (at.2 d));
     }

@@ -1,11 +1,11 @@
 use Rattle.std.proofs.Common.{◌≡◌, length}
-use Rattle.cops_types.specs.Heights.{IsHeight}
-use Rattle.cops_audit.specs.Climbs.{AreHeights}
+use Rattle.cops_types.specs.Maxima.{IsMaximum}
+use Rattle.cops_audit.specs.Climbs.{AreMaxima}
 use Rattle.cops_audit.proofs.climbing.climb.Given as goal
 
 abbrev pub invariant-loop-index : goal.invariant-loop-index
 invariant-loop-index l = record {
-  heights : AreHeights l.history.sessions l.client l.heights.items;
-  len : length l.heights.items ≡ l.index;
-  height : IsHeight l.history.sessions l.client l.index l.height;
+  maxima : AreMaxima l.history.sessions l.client l.maxima.items;
+  len : length l.maxima.items ≡ l.index;
+  maximum : IsMaximum l.history.sessions l.client l.index l.maximum;
 }

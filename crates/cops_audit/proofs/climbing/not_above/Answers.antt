@@ -3,7 +3,7 @@ use Rattle.std.specs.Prelude.{IfSome, IfNone}
 use Rattle.cops_types.specs.Histories.{Sessions}
 use Rattle.cops_types.specs.declared.op.OpName.{OpName}
 use Rattle.cops_types.specs.Faults.{IsNotAbove, IsNotBelow}
-use Rattle.cops_audit.specs.Climbs.{AreHeights}
+use Rattle.cops_audit.specs.Climbs.{AreMaxima}
 use Rattle.cops_audit.specs.declared.verdict.NotAbove.{NotAbove}
 use Rattle.cops_audit.proofs.Acyclic.{same_name}
 use Rattle.cops_audit.proofs.Collect.{skip_next, push_next, among_here}
@@ -22,17 +22,17 @@ one_fault : (h : Sessions) (a b : NotAbove) → IsNotAbove h a.op a.earlier → 
 one_fault h a b f g e = same_fault a b e (one_first h b.op a.earlier b.earlier (subst (λ n. IsNotAbove h n a.earlier) e f) g)
 
 -- a session of which no maximum is known yet
-none_yet : (h : Sessions) (client : ℕ) (heights : List ℕ) → heights ≡ [] → AreHeights h client heights
-none_yet h client heights e = subst (AreHeights h client) (sym e) (λ i height at. absurd cc)
+none_yet : (h : Sessions) (client : ℕ) (maxima : List ℕ) → maxima ≡ [] → AreMaxima h client maxima
+none_yet h client maxima e = subst (AreMaxima h client) (sym e) (λ i maximum at. absurd cc)
 
 pub earlier_not_below-requires : goal.earlier_not_below-requires
 earlier_not_below-requires c =
     let h = c.args.history.now.sessions in
     elim c.if-name-client.branch [
-      | then-name-client w ↦ rw w.heights-is (none_yet h _ _ w.clear.ensures.items)
-      | else-name-client w ↦ rw w.heights-is
+      | then-name-client w ↦ rw w.maxima-is (none_yet h _ _ w.clear.ensures.items)
+      | else-name-client w ↦ rw w.maxima-is
           (let e : c.loop-name.client ≡ (slice_index_or c.args.names.now c.loop-name.name-index (record { client = 0; index = 0 })).client = omega (arith, w.if-name-client.false) in
-          subst (λ (k : ℕ). AreHeights h k c.loop-name.heights.items) e c.loop-name.invariant.heights)
+          subst (λ (k : ℕ). AreMaxima h k c.loop-name.maxima.items) e c.loop-name.invariant.maxima)
     ]
 
 pub loop-name-preserved : goal.loop-name-preserved
@@ -50,7 +50,7 @@ loop-name-preserved c =
             (skip_next (λ f. f.op) (λ f. IsNotAbove h f.op f.earlier) c.args.names.now c.requires i c.loop-name-test.true c.loop-name.faults.items _ c.loop-name.invariant.lists
             (λ x f e. subst (λ (o : Option OpName). IfNone o ((e : OpName) → ¬ IsNotBelow h e name)) w.in_default.is c.in_ok-found.ensures.none x.earlier (subst (λ m. IsNotBelow h x.earlier m) e f.is_not_below)))
       ];
-      heights = c.in_ok-found.ensures.heights;
+      maxima = c.in_ok-found.ensures.maxima;
     }
 
 pub returns : goal.returns

@@ -1,18 +1,18 @@
 use Rattle.std.proofs.Common.{ℕ, max, ◌+◌, ◌∷◌, ◌++◌, [], List, length, append-nil, append_assoc, length-append, slice_index_or, sym, ap, ◌∙◌, arith}
-use Rattle.cops_audit.specs.declared.notes.Note.{Note}
+use Rattle.cops_audit.specs.declared.summaries.Summary.{Summary}
 use Rattle.cops_audit.proofs.Listing.{slice_get_there}
-use Rattle.cops_audit.proofs.Noting.{Noted, few_places, no_notes, raised_note}
+use Rattle.cops_audit.proofs.Noting.{Summarized, few_places, no_summaries, raised_summary}
 use Rattle.cops_audit.proofs.flat.push_session.Goals as goal
 
-pub of-did-requires : goal.of-did-requires
-of-did-requires c = slice_get_there (slice_index_or c.args.history.now.sessions c.args.client []) c.loop-index.index (omega (arith, c.session_len-index-end.ensures.count, c.loop-index-test.true))
+pub of-op_version-requires : goal.of-op_version-requires
+of-op_version-requires c = slice_get_there (slice_index_or c.args.history.now.sessions c.args.client []) c.loop-index.index (omega (arith, c.session_len-index-end.ensures.count, c.loop-index-test.true))
 
 pub above-requires : goal.above-requires
 above-requires c = omega (arith, few_places c.args.history.now.sessions c.args.table.now c.requires.table _ c.see-seen.result c.see-seen.ensures, c.requires.table.table.few)
 
 pub loop-index-init : goal.loop-index-init
 loop-index-init c = record {
-  noted = ([], no_notes c.args.history.now.sessions c.args.table.now c.args.client, sym (append-nil c.args.notes.now.items));
+  summarized = ([], no_summaries c.args.history.now.sessions c.args.table.now c.args.client, sym (append-nil c.args.summaries.now.items));
   capacity = omega arith;
   within = omega arith;
 }
@@ -22,11 +22,11 @@ push_reserved-requires c =
     let l = c.loop-index.invariant in
     omega (
       arith,
-      l.noted.1.whole,
-      ap (λ (ns : List Note). length ns) l.noted.2,
-      length-append c.args.notes.now.items l.noted.0,
-      c.loop-index.notes.ok.0,
-      c.args.notes.now.ok.0,
+      l.summarized.1.whole,
+      ap (λ (ns : List Summary). length ns) l.summarized.2,
+      length-append c.args.summaries.now.items l.summarized.0,
+      c.loop-index.summaries.ok.0,
+      c.args.summaries.now.ok.0,
       l.capacity,
       c.requires.room,
       c.session_len-index-end.ensures.count,
@@ -37,30 +37,30 @@ pub loop-index-preserved : goal.loop-index-preserved
 loop-index-preserved c =
     let h = c.args.history.now.sessions in
     let l = c.loop-index in
-    let session = l.invariant.noted.0 in
+    let session = l.invariant.summarized.0 in
     let seen = c.see-seen in
-    let note : Note = record { seen = seen.result; mark = c.max-mark.result } in
-    let noted : Noted h c.args.table.now c.args.client (session ++ note ∷ []) (l.index + 1) c.max-mark.result
-    = raised_note h c.args.table.now c.args.client session l.index l.mark seen.result l.invariant.noted.1 seen.ensures c.max-mark.result
+    let summary : Summary = record { seen = seen.result; mark = c.max-mark.result } in
+    let summarized : Summarized h c.args.table.now c.args.client (session ++ summary ∷ []) (l.index + 1) c.max-mark.result
+    = raised_summary h c.args.table.now c.args.client session l.index l.mark seen.result l.invariant.summarized.1 seen.ensures c.max-mark.result
     (c.max-mark.ensures ∙ ap (λ (k : ℕ). max l.mark k) c.above.ensures) in
     record {
-      noted = (
-        session ++ note ∷ [],
-        noted,
-        c.push_reserved.ensures.items ∙ ap (λ (ns : List Note). ns ++ note ∷ []) l.invariant.noted.2 ∙ append_assoc c.args.notes.now.items session (note ∷ []),
+      summarized = (
+        session ++ summary ∷ [],
+        summarized,
+        c.push_reserved.ensures.items ∙ ap (λ (ns : List Summary). ns ++ summary ∷ []) l.invariant.summarized.2 ∙ append_assoc c.args.summaries.now.items session (summary ∷ []),
       );
       capacity = omega (arith, l.invariant.capacity, c.push_reserved.ensures.capacity);
       within = omega (arith, c.session_len-index-end.ensures.count, c.loop-index-test.true);
     }
 
-pub returns-clause-notes : goal.returns-clause-notes
-returns-clause-notes c =
-    let noted = c.loop-index.invariant.noted.1 in (
-      c.loop-index.invariant.noted.0,
+pub returns-clause-summaries : goal.returns-clause-summaries
+returns-clause-summaries c =
+    let summarized = c.loop-index.invariant.summarized.1 in (
+      c.loop-index.invariant.summarized.0,
       record {
-        whole = omega (arith, noted.whole, c.loop-index.invariant.within, c.session_len-index-end.ensures.count, c.loop-index-test.false);
-        seen = noted.seen;
-        marks = noted.marks;
+        whole = omega (arith, summarized.whole, c.loop-index.invariant.within, c.session_len-index-end.ensures.count, c.loop-index-test.false);
+        seen = summarized.seen;
+        marks = summarized.marks;
       },
-      c.loop-index.invariant.noted.2,
+      c.loop-index.invariant.summarized.2,
     )

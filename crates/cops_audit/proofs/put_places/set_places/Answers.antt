@@ -4,7 +4,7 @@ use Rattle.cops_types.proofs.Sessions.{puts-le}
 use Rattle.cops_types.specs.declared.versioned_put.VersionedPut.{VersionedPut}
 use Rattle.cops_audit.proofs.Places.{inside_table, put_at, stands_at}
 use Rattle.cops_audit.proofs.Fitting.{no_ok}
-use Rattle.cops_audit.proofs.Positions.{all_more, number_inside, told_more}
+use Rattle.cops_audit.proofs.Positions.{all_more, number_inside, reported_more}
 use Rattle.cops_audit.proofs.put_places.set_places.Goals as goal
 
 pub index_mut-requires : goal.index_mut-requires
@@ -36,7 +36,7 @@ loop-place-preserved c =
     let places = c.loop-place.places.items in
     record {
       len = omega (arith, length-set places number k, l.len);
-      tells = told_more h puts table c.requires k c.loop-place-test.true c.index-table-place.result number at alone places l.len l.tells;
+      reports = reported_more h puts table c.requires k c.loop-place-test.true c.index-table-place.result number at alone places l.len l.reports;
       all = all_more h puts table c.requires k c.loop-place-test.true c.index-table-place.result number at alone places l.len l.all;
       capacity = l.capacity;
     }
@@ -46,12 +46,12 @@ returns-clause-places c =
     let table = c.args.table.now in
     let l = c.loop-place.invariant in
     record {
-      tell = λ k number put version stands named. l.tells k number put version (let inside : k < length table = inside_table table k put version stands in omega (arith, inside, c.loop-place-test.false)) stands named;
+      report = λ k number put version stands named. l.reports k number put version (let inside : k < length table = inside_table table k put version stands in omega (arith, inside, c.loop-place-test.false)) stands named;
       all = λ k inside.
           let none : VersionedPut = record { version = 0; name = record { client = 0; index = 0 } } in
           let put = slice_index_or table k none in
-          let told = l.all k put.name put.version (omega (arith, inside, c.loop-place-test.false)) (stands_at table k none inside) in
-          (told.0, told.2);
+          let reported = l.all k put.name put.version (omega (arith, inside, c.loop-place-test.false)) (stands_at table k none inside) in
+          (reported.0, reported.2);
     }
 
 pub returns-in_err-resize-clause-succeeds : goal.returns-in_err-resize-clause-succeeds

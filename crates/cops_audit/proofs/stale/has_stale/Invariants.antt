@@ -9,6 +9,6 @@ use Rattle.cops_audit.proofs.stale.has_stale.Given as goal
 abbrev pub invariant-loop-k : goal.invariant-loop-k
 invariant-loop-k l = record {
   none : (j : ℕ) (d : Suspect) → j < l.k → (newer : OpName) (version : ℕ) → ¬ IsNewer l.history.sessions (get_or l.suspects j d).op newer version;
-  after : IsAfter l.table l.notes l.firsts l.suspects l.floors l.k l.sweep;
-  room : (space : ℕ) → HasRoom space (map length l.notes) l.fn.sweep → HasRoom space (map length l.notes) l.sweep;
+  after : IsAfter l.table l.summaries l.firsts l.suspects l.floors l.k l.sweep;
+  room : (space : ℕ) → HasRoom space (map length l.summaries) l.fn.sweep → HasRoom space (map length l.summaries) l.sweep;
 }

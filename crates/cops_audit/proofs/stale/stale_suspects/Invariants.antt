@@ -7,5 +7,5 @@ use Rattle.cops_audit.proofs.stale.stale_suspects.Given as goal
 abbrev pub invariant-loop-k : goal.invariant-loop-k
 invariant-loop-k l = record {
   faults : ListsAmong (λ f. f.op) (λ f. IsStale l.history.sessions f.op f.newer) (take l.k (map (λ s. s.op) l.suspects)) l.faults.items;
-  after : IsAfter l.table l.notes l.firsts l.suspects l.floors l.k l.sweep;
+  after : IsAfter l.table l.summaries l.firsts l.suspects l.floors l.k l.sweep;
 }

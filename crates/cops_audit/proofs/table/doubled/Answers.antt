@@ -1,6 +1,6 @@
 use Rattle.std.proofs.Common.{◌≡◌, arith, refl, subst, sym, true}
 use Rattle.cops_types.specs.VersionOrder.{IsDoubled}
-use Rattle.cops_audit.specs.Tables.{TellDoubled}
+use Rattle.cops_audit.specs.Tables.{ReportDoubled}
 use Rattle.cops_audit.proofs.Collect.{skip_next, push_next, among_here}
 use Rattle.cops_audit.proofs.table.doubled.Goals as goal
 use Rattle.cops_audit.proofs.table.doubled.Goals.{then-is_doubled+in_ok-push, else-is_doubled}
@@ -22,4 +22,4 @@ pub returns : goal.returns
 returns c = among_here (λ n. n) (IsDoubled c.args.history.now.sessions) c.args.names.now c.loop-name.name-index _ (omega arith) c.loop-name.invariant
 
 pub is_doubled-requires : goal.is_doubled-requires
-is_doubled-requires c = subst (TellDoubled c.args.history.now) (sym c.as_slice-are_doubled.ensures.value) c.in_ok-doubled.ensures
+is_doubled-requires c = subst (ReportDoubled c.args.history.now) (sym c.as_slice-are_doubled.ensures.value) c.in_ok-doubled.ensures

@@ -1,6 +1,6 @@
 use Rattle.std.proofs.Common.{true, sym, refl, arith}
 use Rattle.std.proofs.Math.ListN.{length-set}
-use Rattle.cops_audit.proofs.Doubling.{tell_all, tell_more}
+use Rattle.cops_audit.proofs.Doubling.{report_all, report_more}
 use Rattle.cops_audit.proofs.Marks.{slice_get_inside}
 use Rattle.cops_audit.proofs.table.doubled_numbers.Goals as goal
 
@@ -25,10 +25,10 @@ loop-k-preserved c =
     let flags = c.loop-k.are_doubled.items in
     record {
       len = omega (arith, length-set flags number true, c.loop-k.invariant.len);
-      tell = tell_more puts c.in_ok-puts.puts.items c.loop-k.k (omega (arith, c.loop-k-test.true, c.len-k-end.ensures, c.in_ok-puts.puts.ok.0)) put c.index-put.ensures number ((own number).0 refl)
-          (λ n at. let both = (own n).1 at in cc) flags c.loop-k.invariant.len c.loop-k.invariant.tell;
+      report = report_more puts c.in_ok-puts.puts.items c.loop-k.k (omega (arith, c.loop-k-test.true, c.len-k-end.ensures, c.in_ok-puts.puts.ok.0)) put c.index-put.ensures number ((own number).0 refl)
+          (λ n at. let both = (own n).1 at in cc) flags c.loop-k.invariant.len c.loop-k.invariant.report;
     }
 
 pub returns : goal.returns
-returns c = tell_all c.args.history.now c.in_ok-puts.puts.items c.loop-k.k c.loop-k.are_doubled.items (omega (arith, c.loop-k-test.false, c.len-k-end.ensures, c.in_ok-puts.puts.ok.0))
-    (c.in_ok-puts.ensures c.args.history.now.sessions c.requires) c.loop-k.invariant.len c.loop-k.invariant.tell
+returns c = report_all c.args.history.now c.in_ok-puts.puts.items c.loop-k.k c.loop-k.are_doubled.items (omega (arith, c.loop-k-test.false, c.len-k-end.ensures, c.in_ok-puts.puts.ok.0))
+    (c.in_ok-puts.ensures c.args.history.now.sessions c.requires) c.loop-k.invariant.len c.loop-k.invariant.report

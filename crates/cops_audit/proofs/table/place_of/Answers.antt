@@ -10,8 +10,8 @@ use Rattle.cops_types.specs.declared.versioned_put.VersionedPut.{VersionedPut}
 use Rattle.cops_audit.specs.Tables.{VersionsNeverFall}
 use Rattle.cops_audit.proofs.table.place_of.Goals as goal
 
-equal_told : (a b : ℕ) → nat_cmp a b ≡ Equal → a ≡ b
-equal_told a b e = elim (cases_order a b) [
+equal_reported : (a b : ℕ) → nat_cmp a b ≡ Equal → a ≡ b
+equal_reported a b e = elim (cases_order a b) [
   | inl same ↦ same
   | inr other ↦ absurd (elim other [ inl less ↦ let l = nat_cmp_is a b Less less in cc | inr more' ↦ let g = nat_cmp_is a b Greater more' in cc ])
 ]
@@ -20,7 +20,7 @@ same_equal : (a b : ℕ) → a ≡ b → nat_cmp a b ≡ Equal
 same_equal a b e = sym (nat_cmp_is a b Equal e)
 
 pub returns-in-Ok-clause-found : goal.returns-in-Ok-clause-found
-returns-in-Ok-clause-found c = λ d. equal_told _ _ (c.in-Ok.ensures.position (λ p. p.version) (answers_always _ _ _ (λ f a r g k. search rules)) d) ∙ c.as_u64.ensures.number
+returns-in-Ok-clause-found c = λ d. equal_reported _ _ (c.in-Ok.ensures.position (λ p. p.version) (answers_always _ _ _ (λ f a r g k. search rules)) d) ∙ c.as_u64.ensures.number
 
 not_less : (a b : ℕ) → a ≤ b → is_lt (nat_cmp b a) ≡ false
 not_less a b le = elim (cases_order b a) [

@@ -1,6 +1,6 @@
 use Rattle.std.proofs.Common.{◌≡◌, ℕ, ◌<◌, slice_index_or}
 use Rattle.cops_batch.specs.declared.pieces.Piece.{Piece}
-use Rattle.cops_batch.specs.declared.pieces.State.TheVariants.{Fine, Held}
+use Rattle.cops_batch.specs.declared.pieces.PieceState.TheVariants.{Fine, Held}
 use Rattle.cops_batch.proofs.joining.finished.Given as goal
 
 abbrev pub invariant-loop-piece : goal.invariant-loop-piece

@@ -16,20 +16,20 @@ spawn_with-started-requires-clause-keeps g c = λ κs met r post.
     let gives = c.into_iter-receiver-iterator.ensures.into_iter_gives in
     let at = YieldsList-turn (YieldsList-from_vec {s = c.into_iter-receiver-iterator.result} c.args.receivers.items gives.0 (omega (arith, gives.1, c.args.receivers.ok.0))) c.loop-receiver.yielded c.loop-receiver.receiver-iterator c.loop-receiver.yielded_by c.next.result c.next.new.self c.in-Some.receiver c.in-Some.is c.next.ensures.steps in
     let own : c.in-Some.receiver.share.holder ≡ HeldByReceiver c.in-Some.receiver.dc = subst (λ (r : Receiver). r.share.holder ≡ HeldByReceiver r.dc) (sym at.1) (c.requires.receivers.1 _ c.in-Some.receiver at.0) in (
-      post.0 ∙ own ∙ ap HeldByReceiver (sym c.dc.ensures) ∙ sym c.of.ensures.who,
+      post.0 ∙ own ∙ ap HeldByReceiver (sym c.dc.ensures) ∙ sym c.of.ensures.owner,
       λ ended.
-          let held : MayHold c.args.setting.now (g.G.Gate.may_hold c.args.gate.now) = of_receiving c.args.setting.now c.args.stage.now.cluster (g.G.Gate.may_hold c.args.gate.now) c.requires.place (post.1 ended) in
+          let held : MayHold c.args.setting.now (g.G.Gate.may_hold c.args.gate.now) = of_receiving c.args.setting.now c.args.state.now.cluster (g.G.Gate.may_hold c.args.gate.now) c.requires.place (post.1 ended) in
           subst (λ (s : Setting). MayHold s (g.G.Gate.may_hold c.of.result.gate.value)) (sym c.of.ensures.setting) (subst (λ (x : _). MayHold c.args.setting.now (g.G.Gate.may_hold x)) (sym c.of.ensures.gate) held),
     )
 
 pub loop-receiver-preserved : goal.loop-receiver-preserved
 loop-receiver-preserved g c =
-    let who : c.in-Ok.handle.promise.who ≡ HeldByReceiver c.in-Some.receiver.dc = ap (λ (p : _). p.who) c.in-Ok.ensures.ok ∙ c.of.ensures.who ∙ ap HeldByReceiver c.dc.ensures in (
+    let owner : c.in-Ok.handle.promise.owner ≡ HeldByReceiver c.in-Some.receiver.dc = ap (λ (p : _). p.owner) c.in-Ok.ensures.ok ∙ c.of.ensures.owner ∙ ap HeldByReceiver c.dc.ensures in (
       tt,
       tt,
       All-same (λ (h : _). (h.promise.gate.value ≡ c.args.gate.now) × (h.promise.setting.value ≡ c.args.setting.now)) _ _ c.in-Ok-push.ensures.items
           (All-push (λ (h : _). (h.promise.gate.value ≡ c.args.gate.now) × (h.promise.setting.value ≡ c.args.setting.now)) _ _ c.loop-receiver.invariant.2 (rw c.in-Ok.ensures.ok (c.of.ensures.gate, c.of.ensures.setting))),
-      ap (map (λ (h : _). h.promise.who)) c.in-Ok-push.ensures.items ∙ map_push (λ (h : _). h.promise.who) c.loop-receiver.handles.items c.in-Ok.handle
-          ∙ ap (λ (l : List Holder). l ++ c.in-Ok.handle.promise.who ∷ []) c.loop-receiver.invariant.3 ∙ ap (λ (x : Holder). map (λ (r : Receiver). HeldByReceiver r.dc) c.loop-receiver.yielded ++ x ∷ []) who
+      ap (map (λ (h : _). h.promise.owner)) c.in-Ok-push.ensures.items ∙ map_push (λ (h : _). h.promise.owner) c.loop-receiver.handles.items c.in-Ok.handle
+          ∙ ap (λ (l : List Holder). l ++ c.in-Ok.handle.promise.owner ∷ []) c.loop-receiver.invariant.3 ∙ ap (λ (x : Holder). map (λ (r : Receiver). HeldByReceiver r.dc) c.loop-receiver.yielded ++ x ∷ []) owner
           ∙ sym (map_push (λ (r : Receiver). HeldByReceiver r.dc) c.loop-receiver.yielded c.in-Some.receiver),
     )

@@ -5,12 +5,12 @@ use Rattle.cops_import.proofs.field.pair.Goals as goal
 
 pub returns-in_default-clause-none : goal.returns-in_default-clause-none
 returns-in_default-clause-none c = λ a b e.
-    let told = rw c.in_ok-items.ensures.ok_part at c.as_array.ensures in
-    let two = two_items c.in_ok-items.items.now.items a b (told ∙ ap as_array e) in
+    let reported = rw c.in_ok-items.ensures.ok_part at c.as_array.ensures in
+    let two = two_items c.in_ok-items.items.now.items a b (reported ∙ ap as_array e) in
     omega (arith, two, c.as_slice.ensures.len, c.in_default.len_below)
 
 pub returns-in_default-2-clause-none : goal.returns-in_default-2-clause-none
 returns-in_default-2-clause-none c = λ a b e.
-    let told = rw c.in_ok-items.ensures.ok_part at c.as_array.ensures in
-    let two = two_items c.in_ok-items.items.now.items a b (told ∙ ap as_array e) in
+    let reported = rw c.in_ok-items.ensures.ok_part at c.as_array.ensures in
+    let two = two_items c.in_ok-items.items.now.items a b (reported ∙ ap as_array e) in
     omega (arith, two, c.as_slice.ensures.len, c.in_default.len_at_least)

@@ -1,11 +1,11 @@
 use Rattle.std.proofs.Common.{◌≡◌, Err, ap}
 use Rattle.serde_json.specs.View.{view}
 use Rattle.cops_import.specs.declared.line.Untold.TheVariants.{Fault}
-use Rattle.cops_import.proofs.Asked.{tells_of, wrong_of}
+use Rattle.cops_import.proofs.Asked.{reports_of, wrong_of}
 use Rattle.cops_import.proofs.line.of_kind.Goals as goal
 
-pub returns-in-Ok-clause-told : goal.returns-in-Ok-clause-told
-returns-in-Ok-clause-told c = (c.requires.name, tells_of (view c.args.object.now) c.args.kind (view c.args.at.now) c.in-Ok.op c.requires.asked c.in-Ok.ensures.told)
+pub returns-in-Ok-clause-reported : goal.returns-in-Ok-clause-reported
+returns-in-Ok-clause-reported c = (c.requires.name, reports_of (view c.args.object.now) c.args.kind (view c.args.at.now) c.in-Ok.op c.requires.asked c.in-Ok.ensures.reported)
 
 pub returns-in-Err-clause-wrong : goal.returns-in-Err-clause-wrong
 returns-in-Err-clause-wrong c = λ fault e.

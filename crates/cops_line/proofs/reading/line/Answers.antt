@@ -2,7 +2,7 @@ use Rattle.std.proofs.Common.{List, map}
 use Rattle.std.specs.Borrow.{Bor}
 use Rattle.clap.specs.Words.{Text, app_of, kind_of, subcommand_rows_of}
 use Rattle.clap.specs.declared.error.kind.ErrorKind.TheVariants.{DisplayHelp, DisplayVersion}
-use Rattle.cops_line.proofs.LineLemmas.{asks_for_none, explained, not_read, read_as_met, refused, some_words, told, untold}
+use Rattle.cops_line.proofs.LineLemmas.{asks_for_none, explained, not_read, read_as_met, refused, some_words, requested, untold}
 use Rattle.cops_line.proofs.reading.line.Goals as goal
 
 abbrev texts : List (Bor Text) → List Text
@@ -11,7 +11,7 @@ texts = map (λ s. s.now)
 pub returns-in-Some-clause-job : goal.returns-in-Some-clause-job
 returns-in-Some-clause-job c =
     let matches = c.in-Ok-try_get_matches_from.ensures.matches in
-    told (texts c.args.words.now) c.in-Some.job (some_words c.args.words.now c.if-is_empty.ensures)
+    requested (texts c.args.words.now) c.in-Some.job (some_words c.args.words.now c.if-is_empty.ensures)
     (read_as_met (texts c.args.words.now) (app_of c.in-Ok.command) (subcommand_rows_of c.in-Ok-try_get_matches_from.matches) c.in-Some.job c.in-Ok.ensures
     c.in-Ok-try_get_matches_from.ensures.kinds (λ s. (matches s).1) c.in-Some.ensures.some)
 

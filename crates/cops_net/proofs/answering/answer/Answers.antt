@@ -14,7 +14,7 @@ pub returns-in-Ok-clause-ok : goal.returns-in-Ok-clause-ok
 returns-in-Ok-clause-ok g c =
     let format = g.S.Session.format c.args.session.now in
     let handed = rw c.format.ensures at (sym c.is_handed.ensures ∙ c.if-not-is_handed.false) in
-    let t = c.ask.ensures.told in (
+    let t = c.ask.ensures.reported in (
       t.0 ∷ [],
       t.1 ∙ ap (λ x. x ++ t.0 ∷ []) c.in-Ok.ensures.kept,
       handed_turn format c.args.greeted c.args.message t.0 c.ask.result handed t.2 t.3 t.4 (rw c.in-Ok.ensures.kept_format at c.ask.ensures.legal),

@@ -3,8 +3,8 @@ use Rattle.cops_report.specs.Puts.{HasPut}
 use Rattle.cops_report.proofs.PutLemmas.{got_once}
 use Rattle.cops_report.proofs.search.mark_sources.Goals as goal
 
-pub mark_bearers-requires-clause-all : goal.mark_bearers-requires-clause-all
-mark_bearers-requires-clause-all c = λ n s.
+pub mark_holders-requires-clause-all : goal.mark_holders-requires-clause-all
+mark_holders-requires-clause-all c = λ n s.
     let puts = c.args.puts.now in
     let same = got_once c.args.history.now.sessions n c.args.mark.next c.in-Some.version s c.in-Some.ensures.got in
     c.from_version-bearers.ensures.all n (subst (λ (v : ℕ). HasPut puts n v) same (c.requires.puts.all n s.version (s.key, s.content, s.put)))

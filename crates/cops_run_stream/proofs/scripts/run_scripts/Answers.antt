@@ -21,4 +21,4 @@ returns-in-Ok-clause-left g c =
     } in
     let ran = subst (λ (events : Option (List Event)). IsRunOf s events lines run.trace) (sym c.requires) scripts in
     let accepted : HasAcceptedVerdict (sessions_of run.trace) = rw c.in-Ok.is at c.run_live-ran.ensures.accepted in
-    if_ok_both c.left_of-ran.result (λ left trace told. left_of s left run.trace lines ran accepted trace told) c.left_of-ran.ensures.trace c.left_of-ran.ensures.text
+    if_ok_both c.left_of-ran.result (λ left trace reported. left_of s left run.trace lines ran accepted trace reported) c.left_of-ran.ensures.trace c.left_of-ran.ensures.text

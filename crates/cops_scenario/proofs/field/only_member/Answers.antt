@@ -13,5 +13,5 @@ one_entry (m ∷ n ∷ ms) k d e = let no : ⊥ = cc in absurd no
 
 pub returns-then-len-ne1-clause-none : goal.returns-then-len-ne1-clause-none
 returns-then-len-ne1-clause-none c = λ name of e.
-    let told = rw c.in_ok-members.ensures.ok_part at c.as_object.ensures in
-    c.if-len-ne1.true (c.len.ensures.len ∙ one_entry c.in_ok-members.members.now.entries name of (told ∙ ap as_object e))
+    let reported = rw c.in_ok-members.ensures.ok_part at c.as_object.ensures in
+    c.if-len-ne1.true (c.len.ensures.len ∙ one_entry c.in_ok-members.members.now.entries name of (reported ∙ ap as_object e))

@@ -11,9 +11,9 @@ returns-in-Ok-clause-ended g c =
     let bytes = g.I.Read.remaining (inner c.args.reader.now) in
     let old = g.W.Write.contents (inner c.args.out.now) in
     let new = g.W.Write.contents (inner c.serve_scenario.new.out) in
-    let told : IfSome bytes (λ (b : List ℕ). IsTextOf b c.in-Ok.scenario) =
-    subst (λ (read : Result AScenario ℕ). IfOk read (λ (s : AScenario). IfSome bytes (λ (b : List ℕ). IsTextOf b s))) c.in-Ok.is c.in_ok-scenario.ensures.told in
+    let reported : IfSome bytes (λ (b : List ℕ). IsTextOf b c.in-Ok.scenario) =
+    subst (λ (read : Result AScenario ℕ). IfOk read (λ (s : AScenario). IfSome bytes (λ (b : List ℕ). IsTextOf b s))) c.in-Ok.is c.in_ok-scenario.ensures.reported in
     let printed : IfOk c.serve_scenario.result (Printed c.args.sessions c.in-Ok.scenario old new) =
     subst (λ (o : Option (List ℕ)). IfOk c.serve_scenario.result (Printed c.args.sessions c.in-Ok.scenario o new)) (ap (λ o. g.W.Write.contents (inner o)) (c.in_ok-scenario.ensures.unwritten (ap is_ok c.in-Ok.is)))
     c.serve_scenario.ensures.served in
-    ended c.args.sessions c.serve_scenario.result bytes c.in-Ok.scenario old new told c.serve_scenario.ensures.status printed
+    ended c.args.sessions c.serve_scenario.result bytes c.in-Ok.scenario old new reported c.serve_scenario.ensures.status printed

@@ -6,8 +6,8 @@ pub returns-clause-done : goal.returns-clause-done
 returns-clause-done g c =
     let p = c.in-Ok-del.ensures in
     del_of c.args.cluster.now c.args.key.now c.in-Ok.key c.in-Ok-del.outcome c.args.client.now c.del.new.client c.in-Ok.ensures.cases (
-      p.who,
-      p.told,
+      p.owner,
+      p.reported,
       p.context,
       where_refused _ c.del.result _ UnknownClient c.in-Ok-del.is c.del.ensures.unknown.0,
       where_refused _ c.del.result _ NotInFormat c.in-Ok-del.is (λ e. (c.del.ensures.not_in_format.0 e).0),

@@ -11,8 +11,8 @@ returns-clause-done g c =
     let p = c.in-Ok-put.ensures in
     put_of c.args.cluster.now c.args.key.now c.args.value.now c.in-Ok.key c.in-Ok-clone.value c.in-Ok-put.outcome c.args.client.now c.put.new.client c.in-Ok.ensures.cases
     c.in-Ok-clone.ensures.cases (
-      p.who,
-      p.told,
+      p.owner,
+      p.reported,
       p.context,
       where_refused _ c.put.result _ UnknownClient c.in-Ok-put.is c.put.ensures.unknown.0,
       where_refused _ c.put.result _ NotInFormat c.in-Ok-put.is (λ e. (c.put.ensures.not_in_format.0 e).0),

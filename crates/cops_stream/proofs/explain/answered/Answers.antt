@@ -1,14 +1,14 @@
-use Rattle.cops_stream.proofs.ToldExplained.{drawing_says, explained_says}
-use Rattle.cops_stream.proofs.ToldSoFar.{or_fault}
+use Rattle.cops_stream.proofs.ReportedExplained.{drawing_says, explained_says}
+use Rattle.cops_stream.proofs.ReportedSoFar.{or_fault}
 use Rattle.cops_stream.proofs.explain.answered.Goals as goal
 
 pub returns-in-Ok-clause-says : goal.returns-in-Ok-clause-says
 returns-in-Ok-clause-says c = λ bytes agrees.
-    rw c.or.ensures (or_fault c.explanation.result _ _ (explained_says c.args.asked bytes _ (λ told. told.explained.answer) (λ told. told.text.items) c.explanation.result (rw c.in-Ok.is at agrees) c.explanation.ensures.told))
+    rw c.or.ensures (or_fault c.explanation.result _ _ (explained_says c.args.asked bytes _ (λ reported. reported.explained.answer) (λ reported. reported.text.items) c.explanation.result (rw c.in-Ok.is at agrees) c.explanation.ensures.reported))
 
 pub returns-in-Ok-clause-drawn : goal.returns-in-Ok-clause-drawn
 returns-in-Ok-clause-drawn c = λ is bytes agrees.
-    rw c.or.ensures (or_fault c.explanation.result _ _ (drawing_says c.args.asked bytes _ (λ told. told.explained.picture) c.explanation.result (rw c.in-Ok.is at agrees) (c.explanation.ensures.drawn is)))
+    rw c.or.ensures (or_fault c.explanation.result _ _ (drawing_says c.args.asked bytes _ (λ reported. reported.explained.picture) c.explanation.result (rw c.in-Ok.is at agrees) (c.explanation.ensures.drawn is)))
 
 pub returns-in-Ok-clause-none : goal.returns-in-Ok-clause-none
 returns-in-Ok-clause-none c = λ is. rw c.or.ensures (or_fault c.explanation.result _ _ (c.explanation.ensures.none is))

@@ -1,13 +1,13 @@
 use Rattle.cops_trace.specs.Answer.{Agrees}
 use Rattle.cops_stream.specs.Explain.{ExplainSays}
-use Rattle.cops_stream.proofs.Told.{told_writes, told_front}
-use Rattle.cops_stream.proofs.ToldExplained.{accepted_explained, picture_told}
+use Rattle.cops_stream.proofs.ExplainedText.{reported_writes, reported_prefix}
+use Rattle.cops_stream.proofs.ReportedExplained.{accepted_explained, picture_reported}
 use Rattle.cops_stream.proofs.explain.explain_stream.Goals as goal
 
 pub returns-in-Ok-clause-ok : goal.returns-in-Ok-clause-ok
 returns-in-Ok-clause-ok g c =
     let gained = c.in-Ok.ensures.ok in
-    told_writes (λ bytes. Agrees bytes c.read_trace.result) (ExplainSays c.args.asked) _ c.in_ok-explained.field-0.explained.answer _ _ _ c.read_trace.ensures.says c.in_ok-explained.ensures.says (rw c.deref.ensures.value at gained)
+    reported_writes (λ bytes. Agrees bytes c.read_trace.result) (ExplainSays c.args.asked) _ c.in_ok-explained.field-0.explained.answer _ _ _ c.read_trace.ensures.says c.in_ok-explained.ensures.says (rw c.deref.ensures.value at gained)
 
 pub returns-in-Ok-clause-accepted : goal.returns-in-Ok-clause-accepted
 returns-in-Ok-clause-accepted g c =
@@ -15,9 +15,9 @@ returns-in-Ok-clause-accepted g c =
 
 pub returns-in-Err-clause-write_failed : goal.returns-in-Err-clause-write_failed
 returns-in-Err-clause-write_failed g c = λ e.
-    told_front (λ bytes. Agrees bytes c.read_trace.result) (ExplainSays c.args.asked) _ c.in_ok-explained.field-0.explained.answer _ c.in-Err.field-0 _ _ c.read_trace.ensures.says c.in_ok-explained.ensures.says
+    reported_prefix (λ bytes. Agrees bytes c.read_trace.result) (ExplainSays c.args.asked) _ c.in_ok-explained.field-0.explained.answer _ c.in-Err.field-0 _ _ c.read_trace.ensures.says c.in_ok-explained.ensures.says
     (rw c.deref.ensures.value at c.in-Err.ensures.err)
 
 pub returns-in-Ok-clause-drawn : goal.returns-in-Ok-clause-drawn
 returns-in-Ok-clause-drawn g c = λ is.
-    picture_told (λ bytes. Agrees bytes c.read_trace.result) c.args.asked _ c.in_ok-explained.field-0.explained.picture c.read_trace.ensures.says (c.in_ok-explained.ensures.drawn is)
+    picture_reported (λ bytes. Agrees bytes c.read_trace.result) c.args.asked _ c.in_ok-explained.field-0.explained.picture c.read_trace.ensures.says (c.in_ok-explained.ensures.drawn is)

@@ -4,8 +4,8 @@ use Rattle.cops_audit.specs.Verdicts.{IsVerdict}
 use Rattle.cops_explain.specs.Explained.{IsExplained}
 use Rattle.cops_stream.proofs.explain.explanation.Goals as goal
 
-pub returns-clause-told : goal.returns-clause-told
-returns-clause-told c =
+pub returns-clause-reported : goal.returns-clause-reported
+returns-clause-reported c =
     let verdict = c.in_ok-verdict.verdict in
     record {
       verdict = verdict;

@@ -4,7 +4,7 @@ use Rattle.cops_types.specs.declared.op_view.OpView.{OpView}
 use Rattle.cops_wire.specs.Answer.{IsAnswer}
 use Rattle.cops_wire.specs.Grammar.{grammar}
 use Rattle.cops_wire.specs.Message.{parts}
-use Rattle.cops_wire.specs.Records.{seen_message}
+use Rattle.cops_wire.specs.Records.{borrowed_message}
 use Rattle.cops_wire.proofs.Codec.{used_within}
 use Rattle.cops_trace.specs.declared.ahead.RecordPlace.{RecordPlace}
 use Rattle.cops_trace.specs.Ahead.{AreSeen}
@@ -16,8 +16,8 @@ pub loop-preserved : goal.loop-preserved
 loop-preserved c =
     let bytes = c.args.bytes.now in
     let r = c.in-Some.record in
-    let answer = subst (λ (l : List ℕ). IsAnswer (grammar c.args.format) l (Ok (parts (seen_message r), r.used))) (from_place bytes c.loop.at) c.in-Some.ensures in
-    let bounds = used_within c.args.format (drop c.loop.at bytes) (parts (seen_message r)) r.used answer in
+    let answer = subst (λ (l : List ℕ). IsAnswer (grammar c.args.format) l (Ok (parts (borrowed_message r), r.used))) (from_place bytes c.loop.at) c.in-Some.ensures in
+    let bounds = used_within c.args.format (drop c.loop.at bytes) (parts (borrowed_message r)) r.used answer in
     let place : RecordPlace = record { at = c.loop.at; used = r.used; client = r.client; index = r.index } in
     let now = seen_next c.args.format bytes c.loop.places.items c.loop.ops.items place r.op c.loop.invariant.same c.loop.invariant.seen answer in
     record {

@@ -54,7 +54,7 @@ pub returns-clause-err : goal.returns-clause-err
 returns-clause-err g c =
     let r = c.loop.invariant.read in
     let into = r.2.into in
-    absurd (omega (arith, settled_len r.0 (stage_of into.underway.trace c.loop.parser.reader) into.stage r.2.settled, r.3, c.loop-test.false))
+    absurd (omega (arith, settled_len r.0 (stage_of into.underway.trace c.loop.parser.reader) into.state r.2.settled, r.3, c.loop-test.false))
 
 pub returns-in_err-take_piece-clause-no_cut : goal.returns-in_err-take_piece-clause-no_cut
 returns-in_err-take_piece-clause-no_cut g c =

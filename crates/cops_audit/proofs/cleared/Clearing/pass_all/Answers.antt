@@ -11,7 +11,7 @@ pass_to-requires-clause-inside c =
     let table = c.args.table.now in
     let put = c.index-table-place.result in
     let stands = stands_item table c.loop-place.place put (omega (arith, c.loop-place-test.true)) c.index-table-place.is in
-    subst (λ (v : VersionedPut). v.name.client < length c.args.notes.now) c.index-table-place.is (put_inside table c.args.notes.now c.requires.rising c.loop-place.place put.name put.version stands)
+    subst (λ (v : VersionedPut). v.name.client < length c.args.summaries.now) c.index-table-place.is (put_inside table c.args.summaries.now c.requires.rising c.loop-place.place put.name put.version stands)
 
 pub loop-place-preserved : goal.loop-place-preserved
 loop-place-preserved c =
@@ -22,6 +22,6 @@ loop-place-preserved c =
     let there : Counted now put.name = subst (λ (v : VersionedPut). Counted now v.name) (sym c.index-table-place.is) (let le = c.in_ok-pass_to.ensures.passed c.if-not-branch.false in omega (arith, le)) in
     let passed = passed_next table c.loop-place.self.clocks.passed.items now c.loop-place.place put.name put.version stands c.loop-place.invariant.passed (c.in_ok-pass_to.ensures.kept c.if-not-branch.false) there in
     record {
-      clearing = c.in_ok-keep_passed.ensures.clearing table c.args.notes.now c.args.firsts.now c.args.suspects.now (c.in_ok-pass_to.ensures.clearing c.if-not-branch.false) passed;
+      clearing = c.in_ok-keep_passed.ensures.clearing table c.args.summaries.now c.args.firsts.now c.args.suspects.now (c.in_ok-pass_to.ensures.clearing c.if-not-branch.false) passed;
       passed = subst (λ (v : Vec ℕ Global). ArePassed table v.items (c.loop-place.place + 1)) (sym c.in_ok-keep_passed.ensures.passed) passed;
     }

@@ -6,7 +6,7 @@ use Rattle.cops_audit.proofs.Clocking.{counted, set_raised}
 use Rattle.cops_audit.proofs.clocks.Clocks.count_next.Goals as goal
 
 pub returns-clause-clocks : goal.returns-clause-clocks
-returns-clause-clocks c = λ table notes clocks source.
+returns-clause-clocks c = λ table summaries clocks source.
     let client = c.args.client in
     let known = c.index_mut-known.result.now in
     let own = get_or-map (λ (v : Vec ℕ Global). v.items) c.args.self.now.known.items client known [] c.requires.client ∙ ap (λ (v : Vec ℕ Global). v.items) (sym c.index_mut-known.ensures.value) in
@@ -14,7 +14,7 @@ returns-clause-clocks c = λ table notes clocks source.
     let inside : client < length known.items = omega (arith, clocks.known_width client (omega (arith, c.requires.client, clocks.known_count)), ap length own, c.requires.client, clocks.known_count) in
     let passed : c.index.result.now ≡ slice_index c.args.self.now.passed.items client = c.index.ensures ∙ get_or-default c.args.self.now.passed.items client _ 0 in_passed in
     let was : c.index-2.result.now ≡ slice_index known.items client = c.index-2.ensures ∙ get_or-default known.items client _ 0 inside in
-    counted table notes c.args.self.now clocks client c.requires.client _ _ (c.index.result.now + 1) refl refl
+    counted table summaries c.args.self.now clocks client c.requires.client _ _ (c.index.result.now + 1) refl refl
     (λ k. subst (λ (l : List ℕ). slice_index l k ≤ slice_index (slice_set known.items client c.max.result) k) (sym own) (set_raised known.items client c.max.result inside (omega (arith, was, c.max.ensures)) k))
     (length-set known.items client c.max.result ∙ sym (ap length own))
     (omega (arith, passed))

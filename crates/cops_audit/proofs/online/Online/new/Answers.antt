@@ -7,6 +7,6 @@ use Rattle.cops_audit.proofs.online.Online.new.Goals as goal
 pub invariant_of-result : goal.invariant_of-result
 invariant_of-result c = record {
   ready = subst (λ h. IsReady h c.in_ok-room.room) (sym c.in_ok-history.ensures) c.in_ok-room.ensures.ready;
-  sessions = omega (arith, ap length c.in_ok-history.ensures, length-replicate {A = List Operation} c.args.clients [], c.in_ok-notes.ensures);
-  notes = omega (arith, c.in_ok-room.ensures.space);
+  sessions = omega (arith, ap length c.in_ok-history.ensures, length-replicate {A = List Operation} c.args.clients [], c.in_ok-summaries.ensures);
+  summaries = omega (arith, c.in_ok-room.ensures.space);
 }

@@ -4,9 +4,9 @@ use Rattle.cops_audit.proofs.sweep.Sweep.drain.Given as goal
 
 abbrev pub invariant-loop-range : goal.invariant-loop-range
 invariant-loop-range l = record {
-  sweeping : IsSweeping l.table l.notes l.firsts l.floor l.self (λ _. ⊥);
-  grows : Grows l.table l.notes l.fn.self l.self;
-  room : (space : ℕ) → HasRoom space (map length l.notes) l.fn.self → HasRoom space (map length l.notes) l.self;
+  sweeping : IsSweeping l.table l.summaries l.firsts l.floor l.self (λ _. ⊥);
+  grows : Grows l.table l.summaries l.fn.self l.self;
+  room : (space : ℕ) → HasRoom space (map length l.summaries) l.fn.self → HasRoom space (map length l.summaries) l.self;
 }
 
 abbrev pub decreases-loop-range : goal.decreases-loop-range

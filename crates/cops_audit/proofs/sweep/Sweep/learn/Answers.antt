@@ -1,15 +1,15 @@
 use Rattle.std.proofs.Common.{◌≡◌, ◌≤◌, ◌+◌, ℕ, List, length, get_or, ap, arith, rules}
-use Rattle.cops_audit.specs.declared.notes.Seen.{Seen}
-use Rattle.cops_audit.specs.declared.notes.Seen.TheVariants.{Got}
+use Rattle.cops_audit.specs.declared.summaries.OpPlace.{OpPlace}
+use Rattle.cops_audit.specs.declared.summaries.OpPlace.TheVariants.{Got}
 use Rattle.cops_types.specs.declared.versioned_put.VersionedPut.{VersionedPut}
-use Rattle.cops_audit.specs.Notes.{above, StandsAt}
+use Rattle.cops_audit.specs.Summaries.{above, StandsAt}
 use Rattle.cops_audit.proofs.Fitting.{no_ok, room_same}
 use Rattle.cops_audit.proofs.Learning.{learns_put, learns_got}
 use Rattle.cops_audit.proofs.Places.{stands_item}
 use Rattle.cops_audit.proofs.sweep.Sweep.learn.Goals as goal
 
 -- what was got is at its place
-here : (table : List VersionedPut) (seen : Seen) (place : ℕ) (put : VersionedPut) → seen ≡ Got place → above seen ≤ length table → put ≡ get_or table place put → StandsAt table place put.name put.version
+here : (table : List VersionedPut) (seen : OpPlace) (place : ℕ) (put : VersionedPut) → seen ≡ Got place → above seen ≤ length table → put ≡ get_or table place put → StandsAt table place put.name put.version
 here table seen place put is few at = stands_item table place put (let e : above seen ≡ place + 1 = ap above is in omega (arith, e, few)) at
 
 pub returns-in-Put-clause-learns : goal.returns-in-Put-clause-learns

@@ -4,28 +4,28 @@ use Rattle.cops_audit.proofs.Sweeping.{above_few, sweep_on, sweep_grows, sweep_p
 use Rattle.cops_audit.proofs.sweep.Sweep.look_at.Goals as goal
 
 pub learn-requires-clause-seen : goal.learn-requires-clause-seen
-learn-requires-clause-seen c = above_few c.args.table.now c.args.notes.now c.requires.rising c.args.name c.in-Some.note.seen c.in-Some.note.mark (sym c.requires.noted ∙ c.in-Some.is)
+learn-requires-clause-seen c = above_few c.args.table.now c.args.summaries.now c.requires.rising c.args.name c.in-Some.summary.seen c.in-Some.summary.mark (sym c.requires.summarized ∙ c.in-Some.is)
 
 pub returns-clause-on : goal.returns-clause-on
-returns-clause-on c = λ _. sweep_on c.args.table.now c.args.notes.now c.requires.rising c.args.firsts.now c.args.floor c.args.self.now c.learn.new.self c.args.name c.args.from c.in-Some.note c.requires.low (sym c.requires.noted ∙ c.in-Some.is) c.in_ok-learn.ensures.learns c.requires.sweeping
+returns-clause-on c = λ _. sweep_on c.args.table.now c.args.summaries.now c.requires.rising c.args.firsts.now c.args.floor c.args.self.now c.learn.new.self c.args.name c.args.from c.in-Some.summary c.requires.low (sym c.requires.summarized ∙ c.in-Some.is) c.in_ok-learn.ensures.learns c.requires.sweeping
 
 pub returns-clause-grows : goal.returns-clause-grows
-returns-clause-grows c = sweep_grows c.args.table.now c.args.notes.now c.requires.rising c.args.firsts.now c.args.floor c.args.self.now c.learn.new.self c.args.name c.in-Some.note (sym c.requires.noted ∙ c.in-Some.is)
+returns-clause-grows c = sweep_grows c.args.table.now c.args.summaries.now c.requires.rising c.args.firsts.now c.args.floor c.args.self.now c.learn.new.self c.args.name c.in-Some.summary (sym c.requires.summarized ∙ c.in-Some.is)
     (c.requires.sweeping.open_counted c.args.name (refl, c.requires.low, omega arith)) c.in_ok-learn.ensures.learns
 
-pub returns-then-note-floor-clause-done : goal.returns-then-note-floor-clause-done
-returns-then-note-floor-clause-done c = λ _. none_open c.args.table.now c.args.notes.now c.requires.rising c.args.firsts.now c.args.floor c.args.self.now _
-    (low_range c.args.table.now c.args.notes.now c.requires.rising c.args.firsts.now c.args.floor c.args.name c.args.from c.in-Some.note (sym c.requires.noted ∙ c.in-Some.is) c.if-note-floor.true) c.requires.sweeping
+pub returns-then-summary-floor-clause-done : goal.returns-then-summary-floor-clause-done
+returns-then-summary-floor-clause-done c = λ _. none_open c.args.table.now c.args.summaries.now c.requires.rising c.args.firsts.now c.args.floor c.args.self.now _
+    (low_range c.args.table.now c.args.summaries.now c.requires.rising c.args.firsts.now c.args.floor c.args.name c.args.from c.in-Some.summary (sym c.requires.summarized ∙ c.in-Some.is) c.if-summary-floor.true) c.requires.sweeping
 
 pub returns-in_default-clause-on : goal.returns-in_default-clause-on
-returns-in_default-clause-on c = λ _. sweep_past c.args.table.now c.args.notes.now c.requires.rising c.args.firsts.now c.args.floor c.args.self.now c.args.name c.args.from (sym c.requires.noted ∙ c.in_default.is) c.requires.sweeping
+returns-in_default-clause-on c = λ _. sweep_past c.args.table.now c.args.summaries.now c.requires.rising c.args.firsts.now c.args.floor c.args.self.now c.args.name c.args.from (sym c.requires.summarized ∙ c.in_default.is) c.requires.sweeping
 
 pub returns-clause-room : goal.returns-clause-room
 returns-clause-room c = λ space room. (
   search rules,
-  (c.in_ok-learn.ensures.room space (map length c.args.notes.now) (covered c.args.table.now c.args.notes.now c.requires.rising) room).1,
+  (c.in_ok-learn.ensures.room space (map length c.args.summaries.now) (covered c.args.table.now c.args.summaries.now c.requires.rising) room).1,
 )
 
 pub returns-in_err-learn-clause-room : goal.returns-in_err-learn-clause-room
 returns-in_err-learn-clause-room c = λ space room.
-    no_ok (c.in_err-learn.ensures.room space (map length c.args.notes.now) (covered c.args.table.now c.args.notes.now c.requires.rising) room).0
+    no_ok (c.in_err-learn.ensures.room space (map length c.args.summaries.now) (covered c.args.table.now c.args.summaries.now c.requires.rising) room).0

@@ -1,6 +1,6 @@
 use Rattle.std.proofs.Common.{◌≡◌, ◌^◌, ◌<◌, ℕ, ◌++◌, ◌∷◌, [], get_or, refl, sym, ◌∙◌, ap, subst, inl, inr, arith, rules}
 use Rattle.std.proofs.Math.ListN.{length-set}
-use Rattle.cops_audit.specs.declared.sweep.Range.{Range}
+use Rattle.cops_audit.specs.declared.sweep.OpRange.{OpRange}
 use Rattle.cops_audit.specs.Sweeps.{InSome}
 use Rattle.cops_audit.proofs.Fitting.{room_kept, room_left}
 use Rattle.cops_audit.proofs.Raising.{counted_then, counted_kept, counted_raised, newly_in_range, room_falls, in_some_kept, in_some_last, in_some_cases}
@@ -13,9 +13,9 @@ returns-in_ok-push-clause-raises c =
     let to = c.args.to in
     let less : get_or xs k 0 < to = omega (arith, c.get-from.ensures, c.if-from-to.true) in
     let old = c.args.self.now.pending.items in
-    let r : Range = record { client = k; from = get_or xs k 0; to = to } in
+    let r : OpRange = record { client = k; from = get_or xs k 0; to = to } in
     let pending : c.push.new.self.items ≡ old ++ r ∷ [] =
-    c.in_ok-push.ensures.items ∙ ap (λ (f : ℕ). old ++ (let x : Range = record { client = k; from = f; to = to } in x) ∷ []) c.get-from.ensures in
+    c.in_ok-push.ensures.items ∙ ap (λ (f : ℕ). old ++ (let x : OpRange = record { client = k; from = f; to = to } in x) ∷ []) c.get-from.ensures in
     rw (c.set.ensures)
     record {
       counts = counted_then xs k to c.requires;

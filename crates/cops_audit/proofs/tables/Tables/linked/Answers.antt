@@ -1,6 +1,6 @@
 use Rattle.std.proofs.Common.{sym, subst}
 use Rattle.cops_audit.specs.Links.{AreLinks}
-use Rattle.cops_audit.specs.Notes.{IsNoted}
+use Rattle.cops_audit.specs.Summaries.{IsSummarized}
 use Rattle.cops_audit.specs.Sorted.{Sorted}
 use Rattle.cops_audit.specs.Tables.{Rises}
 use Rattle.cops_audit.proofs.tables.Tables.linked.Goals as goal
@@ -12,7 +12,7 @@ invariant_of-result g c =
       record {
         names = c.puts.invariant.0.names;
         puts = record { table = c.puts.invariant.0.table; rising = subst (λ (s : Sorted). Rises s.table) (sym c.puts.view_is) c.requires };
-        notes = subst (λ table. IsNoted h table c.in_ok-notes.notes) seen c.in_ok-notes.ensures.notes;
+        summaries = subst (λ table. IsSummarized h table c.in_ok-summaries.summaries) seen c.in_ok-summaries.ensures.summaries;
       },
-      subst (λ table. AreLinks c.puts.inside.history.now table c.in_ok-notes.links) seen c.in_ok-notes.ensures.links,
+      subst (λ table. AreLinks c.puts.inside.history.now table c.in_ok-summaries.links) seen c.in_ok-summaries.ensures.links,
     )

@@ -1,7 +1,7 @@
 use Rattle.std.proofs.Common.{sym, subst, ◌∙◌, ap, map}
 use Rattle.cops_types.specs.VersionOrder.{IsVersionOrder}
 use Rattle.cops_types.specs.Faults.{IsStale}
-use Rattle.cops_audit.specs.Noted.{AreTables}
+use Rattle.cops_audit.specs.Summarized.{AreTables}
 use Rattle.cops_types.specs.declared.versioned_put.VersionedPut.{VersionedPut}
 use Rattle.cops_audit.specs.declared.verdict.Stale.{Stale}
 use Rattle.cops_audit.proofs.Classes.{none_doubled, stale_listed}

@@ -7,5 +7,5 @@ abbrev pub invariant-loop-handle : goal.invariant-loop-handle
 invariant-loop-handle g l = record {
   held : IsTrue l.self.held → MayHold l.setting (g.G.Gate.may_hold l.gate);
   lost : IsTrue l.initial.self.lost → IsTrue l.self.lost;
-  shares : IsTrue l.self.lost ⊎ (holders l.self.shares.items ≡ holders l.initial.self.shares.items ++ map (λ (h : _). h.promise.who) l.yielded);
+  shares : IsTrue l.self.lost ⊎ (holders l.self.shares.items ≡ holders l.initial.self.shares.items ++ map (λ (h : _). h.promise.owner) l.yielded);
 }

@@ -2,7 +2,7 @@ use Rattle.std.proofs.Common.{ap, sym, ◌∙◌}
 use Rattle.cops_node.specs.declared.outcome.Outcome.{Outcome}
 use Rattle.cops_node.specs.Node.{Node}
 use Rattle.cops_cluster.specs.Shares.{is_of_node}
-use Rattle.cops_cluster.proofs.Tellings.{step_of_node}
+use Rattle.cops_cluster.proofs.Reports.{step_of_node}
 use Rattle.cops_cluster.proofs.cluster.Cluster.asked.Goals as goal
 
 pub returns-in-Ok-clause-answers : goal.returns-in-Ok-clause-answers

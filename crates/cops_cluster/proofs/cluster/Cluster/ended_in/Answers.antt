@@ -5,7 +5,7 @@ use Rattle.cops_book.specs.Book.{ABook}
 use Rattle.cops_book.specs.declared.entry.Entry.{Entry}
 use Rattle.cops_cluster.specs.declared.share.Made.{Made}
 use Rattle.cops_cluster.specs.declared.share.Share.{Share}
-use Rattle.cops_cluster.specs.Close.{AllReplay, made_by, made_in, told}
+use Rattle.cops_cluster.specs.Close.{AllReplay, made_by, made_in, reported}
 use Rattle.cops_cluster.specs.Differences.{IsLeastDifference}
 use Rattle.cops_cluster.specs.HandedBack.{HandsBack}
 use Rattle.cops_cluster.specs.declared.closing.CloseFault.TheVariants.{NotKept}
@@ -18,12 +18,12 @@ returns-in-Ok-clause-replays c =
 
 -- the least difference of the books is that of their lists
 least_of_lists : (p q : ℕ) (lists : List (Vec Entry)) (books all : List ABook) (shares callers : List Share) (o : Option ℕ) (t : ℕ) → p ≡ q → books ≡ all → shares ≡ callers → o ≡ Some t
-    → made_in p 0 lists ≡ made_by p 0 all → IfSome o (IsLeastDifference (made_by p 0 books) (told shares)) → IsLeastDifference (made_in q 0 lists) (told callers) t
-least_of_lists p q lists books all shares callers o t places same told_same some made least =
-    let a : IsLeastDifference (made_by p 0 books) (told shares) t = subst (λ (x : Option ℕ). IfSome x (IsLeastDifference (made_by p 0 books) (told shares))) some least in
-    let b : IsLeastDifference (made_by p 0 all) (told callers) t =
-    subst (λ (bs : List ABook). IsLeastDifference (made_by p 0 bs) (told callers) t) same (subst (λ (ss : List Share). IsLeastDifference (made_by p 0 books) (told ss) t) told_same a) in
-    subst (λ (k : ℕ). IsLeastDifference (made_in k 0 lists) (told callers) t) places (subst (λ (ms : List Made). IsLeastDifference ms (told callers) t) (sym made) b)
+    → made_in p 0 lists ≡ made_by p 0 all → IfSome o (IsLeastDifference (made_by p 0 books) (reported shares)) → IsLeastDifference (made_in q 0 lists) (reported callers) t
+least_of_lists p q lists books all shares callers o t places same reported_same some made least =
+    let a : IsLeastDifference (made_by p 0 books) (reported shares) t = subst (λ (x : Option ℕ). IfSome x (IsLeastDifference (made_by p 0 books) (reported shares))) some least in
+    let b : IsLeastDifference (made_by p 0 all) (reported callers) t =
+    subst (λ (bs : List ABook). IsLeastDifference (made_by p 0 bs) (reported callers) t) same (subst (λ (ss : List Share). IsLeastDifference (made_by p 0 books) (reported ss) t) reported_same a) in
+    subst (λ (k : ℕ). IsLeastDifference (made_in k 0 lists) (reported callers) t) places (subst (λ (ms : List Made). IsLeastDifference ms (reported callers) t) (sym made) b)
 
 pub returns-in-Ok-Some-clause-back : goal.returns-in-Ok-Some-clause-back
 returns-in-Ok-Some-clause-back c =

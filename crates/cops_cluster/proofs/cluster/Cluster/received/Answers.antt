@@ -1,16 +1,16 @@
 use Rattle.cops_types.specs.NodeNumber.{node_number}
-use Rattle.cops_cluster.proofs.Tellings.{seen_kept, told_adds, most_adds, told_answers}
+use Rattle.cops_cluster.proofs.Reports.{seen_kept, reported_adds, most_adds, reported_answers}
 use Rattle.cops_cluster.proofs.cluster.Cluster.received.Goals as goal
 
-pub returns-clause-told : goal.returns-clause-told
-returns-clause-told g c =
+pub returns-clause-reported : goal.returns-clause-reported
+returns-clause-reported g c =
     let s = c.step-answered in
     let b = c.args.share.now.entries.items in
     let a = s.new.share.entries.items in
     let n = node_number c.args.spot.dc c.args.spot.place in
-    told_adds b a n c.args.event c.replied.result c.passed.result
-    (seen_kept b a n c.args.event (g.G.Gate.may_hold c.args.gate.now) n 65535 c.number.result s.result c.replied.result s.ensures.told s.ensures.answers s.ensures.none s.ensures.stop c.replied.ensures)
-    c.passed.ensures.told
+    reported_adds b a n c.args.event c.replied.result c.passed.result
+    (seen_kept b a n c.args.event (g.G.Gate.may_hold c.args.gate.now) n 65535 c.number.result s.result c.replied.result s.ensures.reported s.ensures.answers s.ensures.none s.ensures.stop c.replied.ensures)
+    c.passed.ensures.reported
 
 pub returns-clause-most : goal.returns-clause-most
 returns-clause-most g c =
@@ -19,9 +19,9 @@ returns-clause-most g c =
     let a = s.new.share.entries.items in
     let n = node_number c.args.spot.dc c.args.spot.place in
     most_adds b a n c.args.event c.replied.result
-    (seen_kept b a n c.args.event (g.G.Gate.may_hold c.args.gate.now) n 65535 c.number.result s.result c.replied.result s.ensures.told s.ensures.answers s.ensures.none s.ensures.stop c.replied.ensures)
+    (seen_kept b a n c.args.event (g.G.Gate.may_hold c.args.gate.now) n 65535 c.number.result s.result c.replied.result s.ensures.reported s.ensures.answers s.ensures.none s.ensures.stop c.replied.ensures)
 
 pub returns-clause-outcome : goal.returns-clause-outcome
 returns-clause-outcome g c =
     let s = c.step-answered in
-    told_answers c.args.event c.number.result s.result c.replied.result c.passed.result s.ensures.outcome s.ensures.stops c.replied.ensures c.passed.ensures.told
+    reported_answers c.args.event c.number.result s.result c.replied.result c.passed.result s.ensures.outcome s.ensures.stops c.replied.ensures c.passed.ensures.reported

@@ -1,18 +1,18 @@
 use Rattle.std.proofs.Common.{refl}
 use Rattle.cops_cluster.specs.Cluster.{node_of, after_write, write_event}
-use Rattle.cops_cluster.proofs.Tellings.{answer_kept, told_adds, most_adds, told_context, told_written}
+use Rattle.cops_cluster.proofs.Reports.{answer_kept, reported_adds, most_adds, reported_context, reported_written}
 use Rattle.cops_cluster.proofs.cluster.Cluster.write.Goals as goal
 
-pub returns-clause-told : goal.returns-clause-told
-returns-clause-told g c =
+pub returns-clause-reported : goal.returns-clause-reported
+returns-clause-reported g c =
     let s = c.write_step-answered in
     let b = c.args.client.now.share.entries.items in
     let a = s.new.client.share.entries.items in
     let n = node_of c.args.self.now c.args.client.now.dc c.args.key in
     let e = write_event c.args.client.now.number c.args.key c.args.content c.args.client.now.context.pairs in
-    told_adds b a n e c.spent-reply.result c.passed.result
-    (answer_kept b a n e (g.G.Gate.may_hold c.args.gate.now) n c.args.client.now.number n s.result c.spent-reply.result s.ensures.told s.ensures.answers s.ensures.none s.ensures.stop c.spent-reply.ensures)
-    c.passed.ensures.told
+    reported_adds b a n e c.spent-reply.result c.passed.result
+    (answer_kept b a n e (g.G.Gate.may_hold c.args.gate.now) n c.args.client.now.number n s.result c.spent-reply.result s.ensures.reported s.ensures.answers s.ensures.none s.ensures.stop c.spent-reply.ensures)
+    c.passed.ensures.reported
 
 pub returns-clause-most : goal.returns-clause-most
 returns-clause-most g c =
@@ -22,16 +22,16 @@ returns-clause-most g c =
     let n = node_of c.args.self.now c.args.client.now.dc c.args.key in
     let e = write_event c.args.client.now.number c.args.key c.args.content c.args.client.now.context.pairs in
     most_adds b a n e c.spent-reply.result
-    (answer_kept b a n e (g.G.Gate.may_hold c.args.gate.now) n c.args.client.now.number n s.result c.spent-reply.result s.ensures.told s.ensures.answers s.ensures.none s.ensures.stop c.spent-reply.ensures)
+    (answer_kept b a n e (g.G.Gate.may_hold c.args.gate.now) n c.args.client.now.number n s.result c.spent-reply.result s.ensures.reported s.ensures.answers s.ensures.none s.ensures.stop c.spent-reply.ensures)
 
 pub returns-clause-context : goal.returns-clause-context
 returns-clause-context g c =
     let s = c.write_step-answered in
     let pairs = c.args.client.now.context.pairs in
-    told_context (after_write pairs c.args.key) pairs s.new.client.context.pairs s.result c.spent-reply.result c.passed.result
-    (λ code. refl) s.ensures.context s.ensures.kept c.spent-reply.ensures c.passed.ensures.told
+    reported_context (after_write pairs c.args.key) pairs s.new.client.context.pairs s.result c.spent-reply.result c.passed.result
+    (λ code. refl) s.ensures.context s.ensures.kept c.spent-reply.ensures c.passed.ensures.reported
 
 pub returns-clause-outcome : goal.returns-clause-outcome
 returns-clause-outcome g c =
     let s = c.write_step-answered in
-    told_written c.args.content s.result c.spent-reply.result c.passed.result s.ensures.outcome s.ensures.stops c.spent-reply.ensures c.passed.ensures.told
+    reported_written c.args.content s.result c.spent-reply.result c.passed.result s.ensures.outcome s.ensures.stops c.spent-reply.ensures c.passed.ensures.reported

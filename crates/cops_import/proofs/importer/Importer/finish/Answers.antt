@@ -26,7 +26,7 @@ pub returns-in-Err-clause-fault : goal.returns-in-Err-clause-fault
 returns-in-Err-clause-fault g c = λ from fed u.
     let next : c.in-Some.number ≡ c.args.self.ended + 1 = search rules in
     rw c.give_up-in-Err.ensures
-    (stops_last c.args.self.clients fed u.ended c.args.self.line.items u.tolds c.in-Some.number c.in-Err.fault u.split u.within u.tell (next ∙ ap (λ (n : ℕ). n + 1) u.counted)
+    (stops_last c.args.self.clients fed u.ended c.args.self.line.items u.tolds c.in-Some.number c.in-Err.fault u.split u.within u.report (next ∙ ap (λ (n : ℕ). n + 1) u.counted)
     (c.in-Err.ensures.stop from u.tolds u.taken))
 
 pub returns-in_default-clause-fault : goal.returns-in_default-clause-fault

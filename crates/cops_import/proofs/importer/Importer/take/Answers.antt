@@ -5,7 +5,7 @@ use Rattle.cops_trace.specs.Counts.{HasTurn}
 use Rattle.cops_import.specs.Lines.{names_of}
 use Rattle.cops_import.specs.Names.{number_of, with_name}
 use Rattle.cops_import.specs.Underway.{trace_to}
-use Rattle.cops_import.specs.declared.line.Told.{Told}
+use Rattle.cops_import.specs.declared.line.LineOp.{LineOp}
 use Rattle.cops_import.proofs.Numbering.{names_more}
 use Rattle.cops_import.proofs.Records.{cut_so_far, left_refused, taken_more, too_many, written_more}
 use Rattle.cops_import.proofs.importer.Importer.take.Goals as goal
@@ -24,22 +24,22 @@ returns-then-not-has_turn-clause-err g c = λ from tolds h. record { cut = cut_s
 
 pub returns-then-not-has_turn-clause-stop : goal.returns-then-not-has_turn-clause-stop
 returns-then-not-has_turn-clause-stop g c = λ from tolds h.
-    let told : Told = record { name = c.args.name; op = c.args.op.now } in
+    let reported : LineOp = record { name = c.args.name; op = c.args.op.now } in
     let number : c.in-Ok.client ≡ number_of (names_of tolds) c.args.name = c.in-Ok.ensures.number ∙ ap (λ (ns : List (List ℕ)). number_of ns c.args.name) h.names in
     let there : c.in-Ok.client < c.args.self.now.clients = search rules in
     let full : HasTurn c.args.self.now.writer.counts c.in-Ok.client → ⊥ = λ turn. let yes = c.has_turn.ensures.1 turn in let no = c.if-not-has_turn.true in search rules in
-    let names : c.number.new.self ≡ names_of (tolds ++ told ∷ []) =
-    c.in-Ok.ensures.names ∙ ap (λ (ns : List (List ℕ)). with_name ns c.args.name) h.names ∙ sym (names_more tolds told) in
+    let names : c.number.new.self ≡ names_of (tolds ++ reported ∷ []) =
+    c.in-Ok.ensures.names ∙ ap (λ (ns : List (List ℕ)). with_name ns c.args.name) h.names ∙ sym (names_more tolds reported) in
     let few : length c.number.new.self ≤ 65535 = search rules in
-    (refl, too_many c.args.self.now.clients tolds told c.args.self.now.writer.counts c.in-Ok.client h.wrote.counts number there full (omega (arith, ap length names, few)))
+    (refl, too_many c.args.self.now.clients tolds reported c.args.self.now.writer.counts c.in-Ok.client h.wrote.counts number there full (omega (arith, ap length names, few)))
 
 pub returns-in-Ok-op-clause-ok : goal.returns-in-Ok-op-clause-ok
 returns-in-Ok-op-clause-ok g c = λ from tolds h.
-    let told : Told = record { name = c.args.name; op = c.args.op.now } in
+    let reported : LineOp = record { name = c.args.name; op = c.args.op.now } in
     let turn : HasTurn c.args.self.now.writer.counts c.in-Ok.client = search rules in
     let wrote = written_more g.W.Write.contents from (trace_to c.args.self.now.clients tolds) c.args.self.now.writer c.op.new.self c.in-Ok.client (operation_of c.args.op.now) h.wrote turn c.requires
     c.in-Ok-op.ensures.ok c.in-Ok-op.ensures.counts c.in-Ok-op.ensures.written c.in-Ok-op.ensures.heard in
-    taken_more g.W.Write.contents from tolds told c.args.self.now _ c.in-Ok.client h refl c.in-Ok.ensures.names c.saturating_add-self.ensures c.in-Ok.ensures.number turn wrote
+    taken_more g.W.Write.contents from tolds reported c.args.self.now _ c.in-Ok.client h refl c.in-Ok.ensures.names c.saturating_add-self.ensures c.in-Ok.ensures.number turn wrote
 
 pub returns-in-Err-clause-err : goal.returns-in-Err-clause-err
 returns-in-Err-clause-err g c = λ from tolds h.

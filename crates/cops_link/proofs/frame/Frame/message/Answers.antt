@@ -2,8 +2,8 @@ use Rattle.std.proofs.Common.{◌∙◌}
 use Rattle.cops_link.proofs.Frames.{answered, only_memory, same_message}
 use Rattle.cops_link.proofs.frame.Frame.message.Goals as goal
 
-pub want_of_memory-requires : goal.want_of_memory-requires
-want_of_memory-requires c =
+pub out_of_memory-requires : goal.out_of_memory-requires
+out_of_memory-requires c =
     only_memory c.in-Err.fault _ (c.in-Err.ensures.only _ (answered _ _ c.deref.ensures.value c.self.invariant))
 
 pub returns-in-Ok : goal.returns-in-Ok

@@ -1,5 +1,5 @@
 use Rattle.std.proofs.Common.{arith}
-use Rattle.cops_net.proofs.Spellings.{taken_off, taken_len}
+use Rattle.cops_net.proofs.Encodings.{taken_off, taken_len}
 use Rattle.cops_net.proofs.incoming.Incoming.front.Goals as goal
 
 pub overflow_sub-self : goal.overflow_sub-self

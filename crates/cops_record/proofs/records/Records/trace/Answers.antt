@@ -5,8 +5,8 @@ use Rattle.cops_record.specs.Records.{State}
 use Rattle.cops_record.proofs.Turns.{front, only_memory, room_before}
 use Rattle.cops_record.proofs.records.Records.trace.Goals as goal
 
-pub want_of_memory-requires : goal.want_of_memory-requires
-want_of_memory-requires c =
+pub out_of_memory-requires : goal.out_of_memory-requires
+out_of_memory-requires c =
     let i = c.loop-record.record-index in
     let r = c.record-item.result in
     let items = c.deref-record-items.ensures.value in

@@ -2,7 +2,7 @@ use Rattle.std.proofs.Common.{◌≡◌, ◌∙◌, ◌+◌, ◌<◌, ◌≤◌,
 use Rattle.std.proofs.lemmas.List.{length-set}
 use Rattle.std.specs.Global.{Vec}
 use Rattle.cops_link.specs.declared.ends.LinkOut.{LinkOut}
-use Rattle.cops_link.specs.Frame.{spelled}
+use Rattle.cops_link.specs.Frame.{encoded}
 use Rattle.cops_replication.specs.Doing.{at_hand, frames_taken}
 use Rattle.cops_replication.proofs.Doings.{count_one, empty_more, none_taken, one_taken}
 use Rattle.cops_replication.specs.declared.arrival.Arrival.{Arrival}
@@ -72,7 +72,7 @@ loop-k-preserved g c =
     let after = ap (λ (v : Vec LinkOut). v.items) c.arrive-in-loop-k.ensures.same.1 in
     let inside : c.loop-k.k < length (ends c.loop-k.self) = omega (arith, within, c.loop-k.invariant.count) in
     let frame = rw c.in-Some.is at c.in_ok-arrival.ensures.some in
-    let frames = one_taken (ends c.loop-k.self) c.loop-k.k c.index_mut.result.now c.next_arrival.new.link (spelled c.in-Some.arrival.put) inside c.index_mut.ensures.value frame in
+    let frames = one_taken (ends c.loop-k.self) c.loop-k.k c.index_mut.result.now c.next_arrival.new.link (encoded c.in-Some.arrival.put) inside c.index_mut.ensures.value frame in
     let all : frames_taken (ends c.arrive-in-loop-k.new.self) ≡ frames_taken (set (ends c.loop-k.self) c.loop-k.k c.next_arrival.new.link) = ap frames_taken after in
     let one : c.in_ok-more.more ≡ 1 = c.in_ok-more.ensures.did.0 ∙ ap at_hand c.replace.ensures.after in
     record {

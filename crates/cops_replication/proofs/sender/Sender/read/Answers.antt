@@ -1,6 +1,6 @@
 use Rattle.std.proofs.Common.{◌≡◌, ◌<◌, IfSome, IsSome, None, Option, ap, refl, rules, slice_index, slice_set, subst, ◌∙◌, arith}
 use Rattle.cops_cluster.specs.Cluster.{IsNode, IsPutsFrom}
-use Rattle.cops_book.specs.declared.told.Puts.{Puts}
+use Rattle.cops_book.specs.declared.reported.IssuedPuts.{IssuedPuts}
 use Rattle.cops_replication.specs.Lanes.{frames, repeated}
 use Rattle.cops_replication.specs.Sending.{lanes}
 use Rattle.cops_replication.specs.declared.sender.Sender.{Sender}
@@ -16,7 +16,7 @@ loop-place-preserved g c =
     let before = c.loop-place.self in
     let after : Sender = record { dc = before.dc; repeat = before.repeat; read = slice_set before.read c.loop-place.place c.in-Some.more.entries; outbox = c.add.new.self } in
     let found : IsPutsFrom (slice_index before.read c.loop-place.place) c.in-Some.more =
-    subst (λ (o : Option Puts). IfSome o (IsPutsFrom (slice_index before.read c.loop-place.place))) c.in-Some.is c.in_ok-more.ensures.puts in
+    subst (λ (o : Option IssuedPuts). IfSome o (IsPutsFrom (slice_index before.read c.loop-place.place))) c.in-Some.is c.in_ok-more.ensures.puts in
     let there : IsSome c.in_ok-more.field-0 = search rules in
     let node : IsNode c.args.cluster.now before.dc c.loop-place.place = c.in_ok-more.ensures.node.0 there in
     let within : c.loop-place.place < 64 = omega arith in
@@ -25,8 +25,8 @@ loop-place-preserved g c =
       sent = ap frames c.in_ok-add.ensures.ok ∙ frames_due (repeated before.repeat c.in-Some.more.puts.items) (lanes before) ∙ c.loop-place.invariant.sent;
     }
 
-none_there : (o : Option Puts) → o ≡ None → IsSome o → ⊥
-none_there o is some = let none : IsSome (let n : Option Puts = None in n) = subst (λ (p : Option Puts). IsSome p) is some in search rules
+none_there : (o : Option IssuedPuts) → o ≡ None → IsSome o → ⊥
+none_there o is some = let none : IsSome (let n : Option IssuedPuts = None in n) = subst (λ (p : Option IssuedPuts). IsSome p) is some in search rules
 
 pub returns-in_default-clause-all : goal.returns-in_default-clause-all
 returns-in_default-clause-all g c =

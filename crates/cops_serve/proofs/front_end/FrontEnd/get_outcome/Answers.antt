@@ -19,8 +19,8 @@ returns-clause-done g c =
       (refl, refl, refl, refl, refl, refl),
       changed _ _ _ _ _ _ c.from.ensures c.in-Some-get_mut.ensures.item.3
           (got_of c.args.self.now.cluster c.args.key.now c.in-Ok.key c.in-Ok-get.outcome c.in-Some-get_mut.client.now c.get.new.client c.in-Ok.ensures.cases (
-            p.who,
-            p.told,
+            p.owner,
+            p.reported,
             p.context,
             where_refused _ c.get.result _ UnknownClient c.in-Ok-get.is c.get.ensures.unknown.0,
             where_refused _ c.get.result _ ContextFull c.in-Ok-get.is c.get.ensures.only_full,
@@ -29,4 +29,4 @@ returns-clause-done g c =
     )
 
 pub invariant_of-self-2-clause-seated : goal.invariant_of-self-2-clause-seated
-invariant_of-self-2-clause-seated g c = kept _ _ _ _ _ _ _ c.args.self.now.seated c.in-Some-get_mut.ensures.item.3.1 c.get.ensures.who.2
+invariant_of-self-2-clause-seated g c = kept _ _ _ _ _ _ _ c.args.self.now.seated c.in-Some-get_mut.ensures.item.3.1 c.get.ensures.owner.2

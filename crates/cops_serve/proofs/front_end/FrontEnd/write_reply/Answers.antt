@@ -8,4 +8,4 @@ write_replies-requires g c = either (option_copied c.args.content) c.write_outco
 pub returns-clause-reply : goal.returns-clause-reply
 returns-clause-reply g c =
     let p = c.write_outcome-outcome.ensures in
-    write_reply c.args.self.now.cluster.format (option_copied c.args.content) c.write_outcome-outcome.result c.write_replies.result.told p.outcome p.in_format c.write_replies.ensures.told
+    write_reply c.args.self.now.cluster.format (option_copied c.args.content) c.write_outcome-outcome.result c.write_replies.result.reported p.outcome p.in_format c.write_replies.ensures.reported

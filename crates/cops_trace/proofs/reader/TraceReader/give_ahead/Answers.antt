@@ -22,7 +22,7 @@ returns-clause-on g c =
     let going : inside.ended ≡ false = c.if-self.false in
     let fine : inside.fault ≡ None = none_of inside.fault (sym c.is_some.ensures ∙ c.if-is_some.false) in
     let from : inside.counts ≡ Some c.in-Some.counts = c.in-Some.is in
-    let on = goes_ready took c.args.begun.now c.foresee.new.begun begun _ _ c.foresee.ensures c.in_ok-len.ensures.on in
+    let on = goes_ready took c.args.begun.now c.prefetch.new.begun begun _ _ c.prefetch.ensures c.in_ok-len.ensures.on in
     let old : reading_at c.in-Some.counts inside.at bytes ≡ c.args.self.now = (λ j. record { counts = sym from j; at = inside.at; ended = sym going j; rest = same j; fault = sym fine j }) ∙ c.self.view_is in
     let left : drop used bytes ≡ c.take.new.self = ap (drop used) same ∙ sym c.take.ensures in
     let new : reading_at counts (inside.at + used) (drop used bytes) ≡ record { counts = Some counts; at = inside.at + used; ended = inside.ended; rest = c.take.new.self; fault = inside.fault } =

@@ -1,7 +1,7 @@
 use Rattle.std.proofs.Common.{◌≡◌, ℕ, ◌+◌, ◌<◌, List, [], ◌++◌, length, get_or, Some, None, inl, inr, refl, sym, ap, subst, ◌∙◌, append_assoc, arith}
 use Rattle.cops_types.specs.Histories.{Operation, op_at}
 use Rattle.cops_types.specs.OpRefs.{seen}
-use Rattle.cops_wire.specs.Message.{spelled}
+use Rattle.cops_wire.specs.Message.{encoded}
 use Rattle.cops_wire.specs.Records.{record_message}
 use Rattle.cops_trace.specs.Kept.{op_in, trace_of}
 use Rattle.cops_trace.specs.Text.{ATrace, beginning}
@@ -35,7 +35,7 @@ add-requires c =
     (subst (λ (m : ℕ). d ≡ get_or cs m d) i.at c.index-client.ensures) c.next-index.ensures).turn
 
 pub loop-self-preserved : goal.loop-self-preserved
-unfolding spelled
+unfolding encoded
 loop-self-preserved c =
     let i = c.loop-self.invariant in
     let h = c.self.inside.history.sessions in
@@ -48,15 +48,15 @@ loop-self-preserved c =
     let some : Some (seen c.in-Some.op) ≡ op_at h (record { client = d; index = k }) = c.in-Some.ensures.operation in
     let both : Some (seen c.in-Some.op) ≡ Some (op_in h d k) = some ∙ n.is_there in
     let op : seen c.in-Some.op ≡ op_in h d k = cc in
-    let frame : c.append_record.new.out.items ≡ c.loop-self.out.items ++ spelled (record_message d k (seen c.in-Some.op)) = c.in_ok-append_record-in-Some.ensures.text in
+    let frame : c.append_record.new.out.items ≡ c.loop-self.out.items ++ encoded (record_message d k (seen c.in-Some.op)) = c.in_ok-append_record-in-Some.ensures.text in
     let total : c.loop-self.counts.total + 1 ≡ c.add.new.self.total = rw c.add.ensures refl in
     record {
       at = omega (arith, i.at, total);
       counts = subst (CountPrefix t) (sym c.add.ensures) n.counts;
       text = λ before is.
-          ap (λ (l : List ℕ). before ++ l) frame ∙ sym (append_assoc before c.loop-self.out.items (spelled (record_message d k (seen c.in-Some.op))))
-          ∙ ap (λ (l : List ℕ). l ++ spelled (record_message d k (seen c.in-Some.op))) (i.text before is)
-          ∙ ap (λ (o : Operation). beginning (prefix c.loop-self.counts.total t) ++ spelled (record_message d k o)) op
+          ap (λ (l : List ℕ). before ++ l) frame ∙ sym (append_assoc before c.loop-self.out.items (encoded (record_message d k (seen c.in-Some.op))))
+          ∙ ap (λ (l : List ℕ). l ++ encoded (record_message d k (seen c.in-Some.op))) (i.text before is)
+          ∙ ap (λ (o : Operation). beginning (prefix c.loop-self.counts.total t) ++ encoded (record_message d k o)) op
           ∙ sym n.text_is ∙ ap (λ (m : ℕ). beginning (prefix m t)) total;
       since = omega (arith, i.since, total);
       more = inr (omega (arith, i.since, total));

@@ -1,8 +1,8 @@
 use Rattle.std.proofs.Common.{List, map, arith, ap, ◌∙◌, refl, subst, sym}
 use Rattle.cops_types.specs.Blocks.{KeptBlocks}
-use Rattle.cops_types.specs.declared.entry.Entry.TheVariants.{Missed}
-use Rattle.cops_types.specs.declared.slot.Slot.TheVariants.{Missed as MissedSlot}
-use Rattle.cops_types.specs.declared.slot.Slot.{Slot}
+use Rattle.cops_types.specs.declared.entry.StoredOp.TheVariants.{Missed}
+use Rattle.cops_types.specs.declared.slot.OpSlot.TheVariants.{Missed as MissedSlot}
+use Rattle.cops_types.specs.declared.slot.OpSlot.{OpSlot}
 use Rattle.cops_types.specs.Lists.{number_at}
 use Rattle.cops_types.specs.Slots.{AreKept, get_numbers_in, shown_by}
 use Rattle.cops_types.proofs.Showing.{has_slots, is_there, length-shown, all_with_slot, kept_with_slot, numbers_stay}
@@ -43,4 +43,4 @@ returns-clause-numbers c =
     let sessions = c.self.inside.sessions.items in
     let slots = map (λ (b : KeptBlocks). b.items) sessions in
     let there = has_slots puts gets sessions c.args.client (rw (← c.self.view_is) at c.requires.inside) in
-    rw (← c.self.view_is) (λ name entry at. ap (λ (l : List (List Slot)). number_at (get_numbers_in l) name) c.push_slot.ensures.slots ∙ numbers_stay puts gets slots c.args.client (MissedSlot c.args.key) there name entry at)
+    rw (← c.self.view_is) (λ name entry at. ap (λ (l : List (List OpSlot)). number_at (get_numbers_in l) name) c.push_slot.ensures.slots ∙ numbers_stay puts gets slots c.args.client (MissedSlot c.args.key) there name entry at)

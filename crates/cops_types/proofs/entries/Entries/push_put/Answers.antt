@@ -1,9 +1,9 @@
 use Rattle.std.proofs.Common.{◌≡◌, ◌++◌, ◌∷◌, [], List, map, length, arith, ap, ◌∙◌, refl, subst, sym, get_or}
 use Rattle.cops_types.specs.Blocks.{KeptBlocks}
-use Rattle.cops_types.specs.declared.entry.Entry.TheVariants.{Put}
-use Rattle.cops_types.specs.declared.slot.Slot.TheVariants.{Put as PutSlot}
+use Rattle.cops_types.specs.declared.entry.StoredOp.TheVariants.{Put}
+use Rattle.cops_types.specs.declared.slot.OpSlot.TheVariants.{Put as PutSlot}
 use Rattle.cops_types.specs.declared.slot.KeptPut.{KeptPut}
-use Rattle.cops_types.specs.declared.slot.Slot.{Slot}
+use Rattle.cops_types.specs.declared.slot.OpSlot.{OpSlot}
 use Rattle.cops_types.specs.Lists.{number_at, with_item}
 use Rattle.cops_types.specs.Slots.{AreKept, get_numbers_in, shown_by}
 use Rattle.cops_types.proofs.Showing.{has_slots, is_there, length-shown, all_with_put, kept_with_put, numbers_stay}
@@ -61,4 +61,4 @@ returns-clause-numbers c =
     let sessions = c.self.inside.sessions.items in
     let slots = map (λ (b : KeptBlocks). b.items) sessions in
     let there = has_slots puts gets sessions c.args.client (rw (← c.self.view_is) at c.requires.inside) in
-    rw (← c.self.view_is) (λ name entry at. ap (λ (l : List (List Slot)). number_at (get_numbers_in l) name) c.push_slot.ensures.slots ∙ numbers_stay puts gets slots c.args.client (PutSlot c.len-number.result) there name entry at)
+    rw (← c.self.view_is) (λ name entry at. ap (λ (l : List (List OpSlot)). number_at (get_numbers_in l) name) c.push_slot.ensures.slots ∙ numbers_stay puts gets slots c.args.client (PutSlot c.len-number.result) there name entry at)

@@ -5,7 +5,7 @@ use Rattle.std.proofs.lemmas.Option.{slice_get_read, slice_get-map}
 use Rattle.std.proofs.lemmas.Bool.{eqb-true}
 use Rattle.std.specs.Option.{option_map}
 use Rattle.cops_types.specs.Blocks.{KeptBlocks}
-use Rattle.cops_types.specs.declared.entry.Entry.TheVariants.{Put}
+use Rattle.cops_types.specs.declared.entry.StoredOp.TheVariants.{Put}
 use Rattle.cops_types.specs.declared.slot.KeptPut.{KeptPut}
 use Rattle.cops_types.proofs.Showing.{put_at}
 use Rattle.cops_types.proofs.entries.Entries.source.Goals as goal

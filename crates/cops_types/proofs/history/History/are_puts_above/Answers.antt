@@ -3,7 +3,7 @@ use Rattle.cops_types.proofs.Climbing.{is_false}
 use Rattle.cops_types.proofs.history.History.are_puts_above.Goals as goal
 
 pub returns-clause-above : goal.returns-clause-above
-returns-clause-above c = λ is. rw (← c.self.view_is) (c.self.invariant.session_heights.above (sym c.are_above.ensures ∙ is))
+returns-clause-above c = λ is. rw (← c.self.view_is) (c.self.invariant.session_maxima.above (sym c.are_above.ensures ∙ is))
 
 pub returns-clause-not_above : goal.returns-clause-not_above
-returns-clause-not_above c = λ no. rw (← c.self.view_is) (c.self.invariant.session_heights.not_above (sym c.are_above.ensures ∙ is_false c.are_above.result no))
+returns-clause-not_above c = λ no. rw (← c.self.view_is) (c.self.invariant.session_maxima.not_above (sym c.are_above.ensures ∙ is_false c.are_above.result no))

@@ -3,8 +3,8 @@ use Rattle.std.proofs.Common.{Some, sym, ap, ◌∙◌}
 use Rattle.std.proofs.lemmas.Option.{slice_get-map}
 use Rattle.std.specs.Option.{option_map}
 use Rattle.cops_types.specs.Histories.{read}
-use Rattle.cops_types.specs.declared.entry.Entry.TheVariants.{Got}
-use Rattle.cops_types.specs.Entries.{told}
+use Rattle.cops_types.specs.declared.entry.StoredOp.TheVariants.{Got}
+use Rattle.cops_types.specs.Entries.{reported}
 use Rattle.cops_types.proofs.history.History.open_get.Goals as goal
 
 pub key-requires : goal.key-requires
@@ -14,6 +14,6 @@ key-requires c =
 
 pub returns : goal.returns
 returns c =
-    let tell = told c.self.inside.keys.keys c.self.inside.entries.all in
+    let report = reported c.self.inside.keys.keys c.self.inside.entries.all in
     let got = c.in_ok-got.got.now in
-    rw (← c.self.view_is) ((λ j. Some (read (c.key.ensures j) (c.content.ensures j) got.version)) ∙ ap (option_map tell) c.in_ok-got.ensures ∙ sym (slice_get-map tell c.self.inside.entries.gets c.args.number))
+    rw (← c.self.view_is) ((λ j. Some (read (c.key.ensures j) (c.content.ensures j) got.version)) ∙ ap (option_map report) c.in_ok-got.ensures ∙ sym (slice_get-map report c.self.inside.entries.gets c.args.number))

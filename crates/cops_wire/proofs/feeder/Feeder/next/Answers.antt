@@ -1,7 +1,7 @@
 use Rattle.std.proofs.Common.{◌≡◌, ◌∙◌, ◌++◌, List, ℕ, Some, Ok, Err, refl, sym, ap, subst}
 use Rattle.cops_wire.specs.declared.fault.WireFault.{WireFault}
 use Rattle.cops_wire.specs.declared.fault.WireFault.TheVariants.{Memory}
-use Rattle.cops_wire.specs.Grammar.{grammar, spelling}
+use Rattle.cops_wire.specs.Grammar.{grammar, encoding}
 use Rattle.cops_wire.specs.Message.{parts}
 use Rattle.cops_wire.specs.Answer.{Answers, IsAnswer, BeginsWithTaking}
 use Rattle.cops_wire.specs.Feeding.{Fed, IsStoppedBy, IsNext}
@@ -21,7 +21,7 @@ returns-in-Ok-clause-next c =
     let inside = c.self.inside in
     let message = c.in-Ok.decoded.message in
     let off = taken (grammar inside.format) inside.buffer c.rest.result.now c.in-Ok.decoded.used (parts message) c.rest.ensures c.in-Ok.ensures.answer in
-    let split = off.1 ∙ ap (λ (rest : List ℕ). spelling (grammar inside.format) (parts message) ++ rest) (sym c.take.ensures) in
+    let split = off.1 ∙ ap (λ (rest : List ℕ). encoding (grammar inside.format) (parts message) ++ rest) (sym c.take.ensures) in
     subst (λ (old : Fed). IsNext old (Ok (Some message)) (record { format = inside.format; rest = c.take.new.self; fault = inside.fault })) c.self.view_is (off.0, split, c.in_default.is, refl)
 
 pub returns-in-Ok-clause-waits : goal.returns-in-Ok-clause-waits

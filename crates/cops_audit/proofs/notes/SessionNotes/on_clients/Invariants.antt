@@ -1,9 +1,0 @@
-use Rattle.std.proofs.Common.{◌≡◌, ◌+◌, length, map}
-use Rattle.cops_audit.specs.Notes.{AreFrontsNoted}
-use Rattle.cops_audit.proofs.notes.SessionNotes.on_clients.Given as goal
-
-abbrev pub invariant-loop-round : goal.invariant-loop-round
-invariant-loop-round l = record {
-  count : l.first + length l.sessions.items ≡ l.fn.end;
-  fronts : AreFrontsNoted l.history.sessions l.table l.first (map (λ s. s.items) l.sessions.items);
-}

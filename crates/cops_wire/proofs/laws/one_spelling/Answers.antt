@@ -1,5 +1,0 @@
-use Rattle.cops_wire.proofs.Codec.{one_message}
-use Rattle.cops_wire.proofs.laws.one_spelling.Goals as goal
-
-pub returns : goal.returns
-returns c = one_message

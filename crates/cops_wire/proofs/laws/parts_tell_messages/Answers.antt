@@ -1,5 +1,0 @@
-use Rattle.cops_wire.proofs.Messages.{parts-same}
-use Rattle.cops_wire.proofs.laws.parts_tell_messages.Goals as goal
-
-pub returns : goal.returns
-returns c = parts-same
