@@ -7,10 +7,10 @@ ROOT = os.path.dirname(os.path.dirname(os.path.abspath(__file__)))
 
 
 def build():
-    """The path of the program of `crates/cops_works`, which is first proved and built if a source is newer."""
-    crate = os.path.join(ROOT, "crates", "cops_works")
+    """The path of the program of `crates/cops_vectors`, which is first proved and built if a source is newer."""
+    crate = os.path.join(ROOT, "crates", "cops_vectors")
     subprocess.run(["rt", "run"], cwd=crate, check=True, stdout=subprocess.DEVNULL, stdin=subprocess.DEVNULL)
-    return os.path.join(crate, "out", "cops_works")
+    return os.path.join(crate, "out", "cops_vectors")
 
 
 def seconds(*command, runs=5):

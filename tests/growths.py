@@ -1,5 +1,5 @@
 #!/usr/bin/env python3
-"""Makes allocations, reads and writes fail in the test vectors of `crates/cops_works` and in commands of the program: first the first call, then the
+"""Makes allocations, reads and writes fail in the test vectors of `crates/cops_vectors` and in commands of the program: first the first call, then the
 second and so on, each in its own run, until a run makes no further call. A run in which nothing fails must give the expected result. A run with a failure must
 give that result too, or report by its status that it is out of memory or that a device failed; then its output is a prefix of the expected output.
 
@@ -17,7 +17,7 @@ import tempfile
 import typing
 
 ROOT = os.path.dirname(os.path.dirname(os.path.abspath(__file__)))
-WORKS = os.path.join(ROOT, "crates", "cops_works")
+WORKS = os.path.join(ROOT, "crates", "cops_vectors")
 SECONDS = 60
 # The output for two clients of which at least one stopped because it was out of memory.
 STOPPED = re.compile(
@@ -52,7 +52,7 @@ def works():
     with open(data("stale.explained"), "rb") as file:
         explained = file.read()
     program = os.path.join(ROOT, "crates", "cops", "out", "cops")
-    own = [os.path.join(WORKS, "out", "cops_works"), "growths", example("newer_put_elsewhere.json"), data("events.lines"), example("stale.trace"), data("stale.lines")]
+    own = [os.path.join(WORKS, "out", "cops_vectors"), "growths", example("newer_put_elsewhere.json"), data("events.lines"), example("stale.trace"), data("stale.lines")]
     # The report on the stale get is the same if the newer put is a deletion.
     deletions = [*own[:2], example("deleted_elsewhere.json"), data("deleted.lines"), example("stale_deleted.trace"), data("stale.lines")]
     imported = b"client 0 writer\nclient 1 reader\nimported: 2 operations, 2 clients\n"

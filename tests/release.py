@@ -122,7 +122,7 @@ def is_not_run_when_changed(copy):
 
 
 def is_not_run_of_other_sources(copy):
-    source = copy.file("crates", "cops_line", "src", "lib.rt")
+    source = copy.file("crates", "cops_command_line", "src", "lib.rt")
     with open(source, encoding="utf-8") as file:
         text = file.read()
     check("a command before an edit", copy.answer(), ANSWER)
@@ -130,9 +130,9 @@ def is_not_run_of_other_sources(copy):
     check("a source is edited", copy.answer(), NO_TOOLCHAIN)
     written(source, text)
     check("it is as it was", copy.answer(), ANSWER)
-    written(copy.file("crates", "cops_line", "src", "more.rt"), "")
+    written(copy.file("crates", "cops_command_line", "src", "more.rt"), "")
     check("a source is added", copy.answer(), NO_TOOLCHAIN)
-    os.remove(copy.file("crates", "cops_line", "src", "more.rt"))
+    os.remove(copy.file("crates", "cops_command_line", "src", "more.rt"))
     check("it is removed", copy.answer(), ANSWER)
     os.remove(copy.file("crates", "cops_types", "specs", "Lib.antt"))
     check("a definition is removed", copy.answer(), NO_TOOLCHAIN)
@@ -144,12 +144,12 @@ def is_built_of_other_sources(copy):
     copy.add("cp", "mkdir")
     written(os.path.join(copy.path, "rt"), "#!/bin/sh\n")
     written(copy.file("build"), BUILD)
-    written(copy.file("crates", "cops_line", "src", "more.rt"), "")
+    written(copy.file("crates", "cops_command_line", "src", "more.rt"), "")
     check("it is built", copy.answer(), (0, ANSWER[1], NOT_OF_THESE + b"cops: built\n"))
     check("once", copy.answer(), ANSWER)
     written(copy.file("build"), "#!/bin/sh\nexit 1\n")
     check("until a source is edited again", copy.answer(), ANSWER)
-    written(copy.file("crates", "cops_line", "src", "more.rt"), "\n")
+    written(copy.file("crates", "cops_command_line", "src", "more.rt"), "\n")
     check("where it is not built", copy.answer(), (4, b"", NOT_OF_THESE + b"cops: the program was not built: see above\n"))
 
 

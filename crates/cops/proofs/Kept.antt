@@ -6,12 +6,12 @@ use Rattle.std.specs.Io.KnownBytes.{Appends, Keeps}
 use Rattle.cops_types.specs.declared.selection.Selection.{Selection}
 use Rattle.cops_import.specs.Imports.{IsImport}
 use Rattle.cops_import.specs.Words.{reported_text}
-use Rattle.cops_stream.specs.declared.audit.Answer.{Answer}
-use Rattle.cops_stream.specs.declared.audit.Answer.TheVariants as answer
-use Rattle.cops_stream.specs.declared.audit.StreamFault.{StreamFault}
-use Rattle.cops_stream.specs.declared.explain.Explained.{Explained}
-use Rattle.cops_stream.specs.Convergent.{EncodesConvergent}
-use Rattle.cops_stream.specs.Explain.{PictureSays, WritesExplained}
+use Rattle.cops_audit_commands.specs.declared.audit.Answer.{Answer}
+use Rattle.cops_audit_commands.specs.declared.audit.Answer.TheVariants as answer
+use Rattle.cops_audit_commands.specs.declared.audit.StreamFault.{StreamFault}
+use Rattle.cops_audit_commands.specs.declared.explain.Explained.{Explained}
+use Rattle.cops_audit_commands.specs.Convergent.{EncodesConvergent}
+use Rattle.cops_audit_commands.specs.Explain.{PictureSays, WritesExplained}
 use Rattle.cops.specs.Status.{Draws, Explains, Gains, HasAnswered, Imports, ReportsNoTrace}
 
 kept_text : (old mid new : Option (List ℕ)) (bs : List ℕ) → Appends old mid bs → Keeps mid new → Appends old new bs

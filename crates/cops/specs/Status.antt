@@ -6,8 +6,8 @@ use Rattle.std.specs.Io.KnownBytes.{Appends, Keeps}
 use Rattle.std.specs.Option.{is_some}
 use Rattle.cops_types.specs.declared.limits.TheConstants.{MAX_WORKERS}
 use Rattle.cops_types.specs.declared.selection.Selection.{Selection}
-use Rattle.cops_line.specs.declared.job.Job.{Job}
-use Rattle.cops_line.specs.declared.job.Job.TheVariants.{Audit, SoFar, Explain, Show, Import, Convert, Run, Serve}
+use Rattle.cops_command_line.specs.declared.job.Job.{Job}
+use Rattle.cops_command_line.specs.declared.job.Job.TheVariants.{Audit, SoFar, Explain, Show, Import, Convert, Run, Serve}
 use Rattle.cops_trace.specs.declared.fault.TraceFault.{TraceFault}
 use Rattle.cops_trace.specs.declared.fault.TraceFault.TheVariants.{Cut}
 use Rattle.cops_trace.specs.Live.{IsCutShort}
@@ -15,28 +15,27 @@ use Rattle.cops_trace.specs.Text.{ATrace}
 use Rattle.cops_trace.specs.Answer.{Says}
 use Rattle.cops_trace.specs.Lines.{fault_line}
 use Rattle.cops_scenario.specs.Scenario.{AScenario}
-use Rattle.cops_scenario.specs.File.{IsTextOf}
-use Rattle.cops_command.specs.Scenario.{ReportsNone}
+use Rattle.cops_scenario.specs.File.{IsTextOf, IsNoScenario}
 use Rattle.cops_command.specs.Status.{number}
 use Rattle.cops_command.specs.declared.status.Status.TheVariants.{Accepted, Faulty}
-use Rattle.cops_stream.specs.declared.audit.Answer.{Answer}
-use Rattle.cops_stream.specs.declared.audit.StreamFault.{StreamFault}
-use Rattle.cops_stream.specs.declared.audit.StreamFault.TheVariants.{BadWorkers}
-use Rattle.cops_stream.specs.declared.explain.Explained.{Explained}
-use Rattle.cops_stream.specs.declared.audit.Answer.TheVariants as answer
-use Rattle.cops_stream.specs.Audit.{Writes}
-use Rattle.cops_stream.specs.Convert.{ConvertsAlike, converted_line}
-use Rattle.cops_stream.specs.Explain.{PictureSays, WritesExplained}
-use Rattle.cops_stream.specs.Show.{Shows}
-use Rattle.cops_stream.specs.SoFar.{IsSoundSoFar, WritesSoFar}
-use Rattle.cops_stream.specs.Convergent.{EncodesConvergent}
+use Rattle.cops_audit_commands.specs.declared.audit.Answer.{Answer}
+use Rattle.cops_audit_commands.specs.declared.audit.StreamFault.{StreamFault}
+use Rattle.cops_audit_commands.specs.declared.audit.StreamFault.TheVariants.{BadWorkers}
+use Rattle.cops_audit_commands.specs.declared.explain.Explained.{Explained}
+use Rattle.cops_audit_commands.specs.declared.audit.Answer.TheVariants as answer
+use Rattle.cops_audit_commands.specs.Audit.{Writes}
+use Rattle.cops_audit_commands.specs.Convert.{ConvertsAlike, converted_line}
+use Rattle.cops_audit_commands.specs.Explain.{PictureSays, WritesExplained}
+use Rattle.cops_audit_commands.specs.Show.{Shows}
+use Rattle.cops_audit_commands.specs.SoFar.{IsSoundSoFar, WritesSoFar}
+use Rattle.cops_audit_commands.specs.Convergent.{EncodesConvergent}
 use Rattle.cops_import.specs.Faults.{IsFirstFaulty}
 use Rattle.cops_import.specs.Imports.{IsImport}
 use Rattle.cops_import.specs.Words.{faulty_line, reported_text}
 use Rattle.cops_import.specs.declared.fault.ImportFault.{ImportFault}
 use Rattle.cops_import.specs.declared.fault.ImportFault.TheVariants.{Line}
 use Rattle.cops_import.specs.declared.fault.JsonLineFault.{JsonLineFault}
-use Rattle.cops_run_stream.specs.Running.{EndsWell as HasRun}
+use Rattle.cops_run_command.specs.Running.{EndsWell as HasRun}
 use Rattle.cops_serve.specs.Serving.{IsServed}
 
 -- the bytes are a trace's text
@@ -143,8 +142,8 @@ EndsFaulty (Explain trace faults picture) bytes made_old made_new old new =
 EndsFaulty (Show trace) bytes made_old made_new old new = ReportsNoTrace bytes × Shows bytes (number Faulty) old new × (made_new ≡ made_old)
 EndsFaulty (Import lines trace) bytes made_old made_new old new = StopsAtLine bytes made_old made_new old new
 EndsFaulty (Convert trace made) bytes made_old made_new old new = IsUnconverted bytes made_old made_new old new
-EndsFaulty (Run scenario trace) bytes made_old made_new old new = ReportsNone bytes × Keeps made_old made_new
-EndsFaulty (Serve port scenario sessions idle) bytes made_old made_new old new = ReportsNone bytes × (made_new ≡ made_old)
+EndsFaulty (Run scenario trace) bytes made_old made_new old new = IsNoScenario bytes × Keeps made_old made_new
+EndsFaulty (Serve port scenario sessions idle) bytes made_old made_new old new = IsNoScenario bytes × (made_new ≡ made_old)
 
 -- the number of workers of an audit is allowed
 abbrev pub MayWork : Job → Type 0

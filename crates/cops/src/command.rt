@@ -6,27 +6,27 @@ ghost use Rattle.cops_types.specs.Counted.{inner};
 ghost use Rattle.cops_trace.specs.declared.fault.TraceFault.{TraceFault as AFault};
 ghost use Rattle.cops_trace.specs.Lines.{fault_line as fault_text};
 ghost use Rattle.cops_import.specs.Words.{reported_text, faulty_line as faulty_text};
-ghost use Rattle.cops_stream.specs.Audit.{Writes, answer_status};
-ghost use Rattle.cops_stream.specs.Convert.{converted_line as converted_text};
-ghost use Rattle.cops_stream.specs.Convergent.{EncodesConvergent};
-ghost use Rattle.cops_stream.specs.Show.{Shows};
-ghost use Rattle.cops_stream.specs.SoFar.{IsSoundSoFar, WritesSoFar};
-ghost use Rattle.cops_command.specs.Scenario.{ReportsNone};
+ghost use Rattle.cops_audit_commands.specs.Audit.{Writes, answer_status};
+ghost use Rattle.cops_audit_commands.specs.Convert.{converted_line as converted_text};
+ghost use Rattle.cops_audit_commands.specs.Convergent.{EncodesConvergent};
+ghost use Rattle.cops_audit_commands.specs.Show.{Shows};
+ghost use Rattle.cops_audit_commands.specs.SoFar.{IsSoundSoFar, WritesSoFar};
+ghost use Rattle.cops_scenario.specs.File.{IsNoScenario};
 ghost use Rattle.cops_command.specs.Status.{number, number as status_number};
 ghost use Rattle.cops_command.specs.declared.status.Status.TheVariants.{Accepted, Failed, Faulty, NoMemory, Refused};
-ghost use Rattle.cops_run_stream.specs.Running.{EndsWell as HasRun};
+ghost use Rattle.cops_run_command.specs.Running.{EndsWell as HasRun};
 ghost use Rattle.cops.specs.Status.{EndsFaulty, EndsRefused, EndsWell, Explains, HasAnswered, HasConverted, HasServed, Imports, IsFaultyAnswer, IsUnconverted, MayWork, PrintsLine, StopsAtLine, ReportsNoTrace, ReportsOtherFault, ReportsTrace, drawn_text};
 
 use crate::output::Output;
-use cops_command::{Status, print};
-use cops_import::{ImportFault, Imported, JsonLineFault, Unimported, faulty_line, import_stream};
-use cops_line::Job;
-use cops_run_stream::{Streamed, run_stream};
-use cops_serve::serve_stream;
-use cops_stream::{
+use cops_audit_commands::{
     Answer, Explained, StreamFault, audit_so_far, audit_stream, convert_stream, converted_line,
     explain_stream, show_stream,
 };
+use cops_command::{Status, print};
+use cops_command_line::Job;
+use cops_import::{ImportFault, Imported, JsonLineFault, Unimported, faulty_line, import_stream};
+use cops_run_command::{Streamed, run_stream};
+use cops_serve::serve_stream;
 use cops_trace::{ConvertFault, TraceFault, fault_line};
 use cops_types::{Counted, Memory, OpenGate, Selection, write_text};
 use std::alloc::Global;
@@ -533,7 +533,7 @@ where
     ensures ran { result.status ≡ number Accepted → IfSome (I.remaining (inner input.old)) (λ bytes. HasRun bytes
         (T.contents (inner outputs.made)) (T.contents (inner result.outputs.made)) (W.contents (inner outputs.out)) (W.contents (inner result.outputs.out))) }
     ensures refused { result.status ≡ number Refused → IfSome (I.remaining (inner input.old)) (λ _. ⊥) }
-    ensures faulty { result.status ≡ number Faulty → IfSome (I.remaining (inner input.old)) (λ bytes. ReportsNone bytes
+    ensures faulty { result.status ≡ number Faulty → IfSome (I.remaining (inner input.old)) (λ bytes. IsNoScenario bytes
         × Keeps (T.contents (inner outputs.made)) (T.contents (inner result.outputs.made))) }
 {
     let Outputs {
@@ -573,7 +573,7 @@ where
     ensures served { result.status ≡ number Accepted → IfSome (I.remaining (inner input.old)) (λ bytes.
         HasServed sessions bytes (W.contents (inner outputs.out)) (W.contents (inner result.outputs.out))) }
     ensures refused { result.status ≡ number Refused → IfSome (I.remaining (inner input.old)) (λ _. ⊥) }
-    ensures faulty { result.status ≡ number Faulty → IfSome (I.remaining (inner input.old)) ReportsNone }
+    ensures faulty { result.status ≡ number Faulty → IfSome (I.remaining (inner input.old)) IsNoScenario }
     ensures made { result.outputs.made ≡ outputs.made }
 {
     let Outputs {

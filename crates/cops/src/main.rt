@@ -18,8 +18,8 @@ use crate::lines::{NoLines, copied, created, is_plain, rewound};
 use crate::output::{DraftFile, MadeFile, Printed, Rebuilt};
 use crate::progress::{Cleared, Reading, Watched, begun, remove};
 use cops_command::Status;
+use cops_command_line::{Job, line};
 use cops_import::{ImportFault, count_clients};
-use cops_line::{Job, line};
 use cops_types::Counted;
 use std::alloc::AllocError;
 use std::fs::File;
@@ -340,17 +340,17 @@ where
 }
 
 /// Prints the help, the version or the usage, and returns the status.
-fn no_job<R: Print + Eprint>(rt: &R, fault: cops_line::LineFault) -> u8 {
+fn no_job<R: Print + Eprint>(rt: &R, fault: cops_command_line::LineFault) -> u8 {
     match fault {
-        cops_line::LineFault::Help(text) | cops_line::LineFault::Version(text) => {
+        cops_command_line::LineFault::Help(text) | cops_command_line::LineFault::Version(text) => {
             let _ = print!(rt; "{text}");
             Status::Accepted.number()
         }
-        cops_line::LineFault::Usage(text) => {
+        cops_command_line::LineFault::Usage(text) => {
             let _ = eprint!(rt; "{text}");
             Status::Faulty.number()
         }
-        cops_line::LineFault::Memory => failed(rt, "memory", Status::NoMemory),
+        cops_command_line::LineFault::Memory => failed(rt, "memory", Status::NoMemory),
     }
 }
 

@@ -1,6 +1,6 @@
 //! Conversions to format 2, also over readers and writers that fail.
 use crate::building::{DELETED, TWO};
-use cops_stream::convert_stream;
+use cops_audit_commands::convert_stream;
 use cops_trace::{ConvertFault, TraceFault};
 use cops_types::{Counted, FailingReader, FailingWriter};
 use std::alloc::Global;

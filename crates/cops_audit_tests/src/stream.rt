@@ -1,5 +1,5 @@
 use crate::building::{DELETED, STALE_BELOW_A_DELETION, TWO, TestOp, op};
-use cops_stream::*;
+use cops_audit_commands::*;
 use cops_testing::HoldsAt;
 use cops_trace::{Trace, write_trace};
 use cops_types::{Counted, FailingReader, FailingWriter, Format, OpenGate, Point};

@@ -7,7 +7,7 @@ use Rattle.std.proofs.lemmas.List.{get_or_append_left}
 use Rattle.cops_types.specs.declared.gate.Point.{Point}
 use Rattle.cops_batch.specs.declared.pieces.Piece.{Piece}
 use Rattle.cops_batch.specs.declared.pieces.PieceState.TheVariants.{Held}
-use Rattle.cops_batch.specs.Pieces.{Each, IsCut, IsHeldByGate, IsReady, LiesWithin, MayHoldPiece, SamePlaces, piece_len}
+use Rattle.cops_batch.specs.Pieces.{Each, IsCut, IsStoppedByGate, IsReady, LiesWithin, MayHoldPiece, SamePlaces, piece_len}
 
 -- one more piece at the end
 pub cut_more : (i a b : ℕ) (ps : List Piece) (p : Piece) → IsCut i a ps b → p.number ≡ i + length ps → p.start ≡ b → IsCut i a (ps ++ p ∷ []) (b + p.len)
@@ -63,7 +63,7 @@ cut_same i a b (p ∷ ps) (q ∷ qs) len same cut =
     )
 
 -- pieces with the same numbers, starts and lengths are within as many operations
-pub ready_same : (n : ℕ) (may_hold : Point → Type 0) (ps qs : List Piece) → length qs ≡ length ps → SamePlaces ps qs → All (LiesWithin n) ps → Each (IsHeldByGate may_hold) qs → All (IsReady n may_hold) qs
+pub ready_same : (n : ℕ) (may_hold : Point → Type 0) (ps qs : List Piece) → length qs ≡ length ps → SamePlaces ps qs → All (LiesWithin n) ps → Each (IsStoppedByGate may_hold) qs → All (IsReady n may_hold) qs
 ready_same n may_hold ps qs len same within held k d below =
     let old : k < length ps = omega (arith, below, len) in
     let place = same k d old in
@@ -71,9 +71,9 @@ ready_same n may_hold ps qs len same within held k d below =
 
 -- where a piece was held, the gate may hold it
 pub held_at : (may_hold : Point → Type 0) (ps : List Piece) (k : ℕ) (p : Piece) (b : ℕ) → k < length ps → p ≡ get_or ps k p → p.state ≡ Held
-    → IsCut 0 0 ps b → Each (IsHeldByGate may_hold) ps → (x : ℕ) × (x < length ps) × MayHoldPiece may_hold x
+    → IsCut 0 0 ps b → Each (IsStoppedByGate may_hold) ps → (x : ℕ) × (x < length ps) × MayHoldPiece may_hold x
 held_at may_hold ps k p b below is state cut all =
     let n : p.number ≡ 0 + k = ap (λ (q : Piece). q.number) is ∙ cut_number 0 0 b ps k p cut below in
-    let P : Piece → Type 0 = IsHeldByGate may_hold in
-    let mine : IsHeldByGate may_hold p = subst P (sym is) (all k p below) in
+    let P : Piece → Type 0 = IsStoppedByGate may_hold in
+    let mine : IsStoppedByGate may_hold p = subst P (sym is) (all k p below) in
     (p.number, omega (arith, n, below), mine state)

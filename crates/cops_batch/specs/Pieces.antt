@@ -11,8 +11,8 @@ abbrev pub MayHoldPiece : (Point → Type 0) → ℕ → Type 0
 MayHoldPiece may_hold i = may_hold (PieceStart i) ⊎ may_hold (PieceDone i)
 
 -- where a worker was held, the gate may hold its piece
-abbrev pub IsHeldByGate : (Point → Type 0) → Piece → Type 0
-IsHeldByGate may_hold p = p.state ≡ Held → MayHoldPiece may_hold p.number
+abbrev pub IsStoppedByGate : (Point → Type 0) → Piece → Type 0
+IsStoppedByGate may_hold p = p.state ≡ Held → MayHoldPiece may_hold p.number
 
 -- the names of a piece
 abbrev pub names_of : List OpName → Piece → List OpName
@@ -29,7 +29,7 @@ LiesWithin n p = p.start + p.len ≤ n
 
 -- the piece is within n operations, and where its worker was held, the gate may hold it
 abbrev pub IsReady : ℕ → (Point → Type 0) → Piece → Type 0
-IsReady n may_hold p = LiesWithin n p × IsHeldByGate may_hold p
+IsReady n may_hold p = LiesWithin n p × IsStoppedByGate may_hold p
 
 -- the length of a piece when `count` operations are cut for `workers` workers: the quotient, and one more for the first pieces, as many as the
 -- remainder

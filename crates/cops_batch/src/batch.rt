@@ -4,7 +4,7 @@ ghost use Rattle.cops_types.specs.declared.limits.TheConstants.{MAX_WORKERS};
 ghost use Rattle.cops_types.specs.Verdicts.{AllAbove, AllHaveSources};
 ghost use Rattle.cops_audit.specs.Tables.{Repeats, Rises};
 ghost use Rattle.cops_audit.specs.Verdicts.{Accepts, ConvergesByVersions, IsVerdict};
-ghost use Rattle.cops_batch.specs.Pieces.{IsCut, IsHeldByGate, IsReady, LiesWithin, MayHoldPiece};
+ghost use Rattle.cops_batch.specs.Pieces.{IsCut, IsStoppedByGate, IsReady, LiesWithin, MayHoldPiece};
 ghost use Rattle.cops_batch.specs.declared.fault.BatchFault.TheVariants.{BadWorkers, Held};
 
 use crate::fault::BatchFault;
@@ -135,7 +135,7 @@ fn last_round<R: Threads + Wait + Sync, G: Gate>(
     count: usize,
 ) -> Result<(), BatchFault>
     requires cut { IsCut 0 0 pieces.old count }
-    requires held { All (IsHeldByGate (G.may_hold gate.now)) pieces.old }
+    requires held { All (IsStoppedByGate (G.may_hold gate.now)) pieces.old }
     requires some { 0 < length pieces.old }
     ensures bad { IfErr result (λ e. e ≢ BadWorkers) }
     ensures held { IsErrOf result Held → (i : ℕ) × (i < length pieces.old) × MayHoldPiece (G.may_hold gate.now) i }
@@ -159,7 +159,7 @@ fn judge_stale<R: Threads + Wait + Sync, G: Gate>(
     requires above { AllAbove puts.sessions }
     requires cut { IsCut 0 0 pieces.old (length puts.names) }
     requires ready { All (IsReady (length puts.names) (G.may_hold gate.now)) pieces.old }
-    requires held { All (IsHeldByGate (G.may_hold gate.now)) pieces.old }
+    requires held { All (IsStoppedByGate (G.may_hold gate.now)) pieces.old }
     requires some { 0 < length pieces.old }
     ensures ok { IfOk result (IsVerdict puts.entry.sessions) }
     ensures bad { IfErr result (λ e. e ≢ BadWorkers) }

@@ -2,7 +2,7 @@ ghost use Rattle.std.specs.Prelude.{◌≡◌, ◌≢◌, ◌<◌, ℕ, IfOk, If
 ghost use Rattle.cops_types.specs.Verdicts.{AllAbove, AllHaveSources};
 ghost use Rattle.cops_audit.specs.Tables.{Rises};
 ghost use Rattle.cops_audit.specs.Verdicts.{IsVerdict};
-ghost use Rattle.cops_batch.specs.Pieces.{Each, IsCut, IsHeldByGate, MayHoldPiece};
+ghost use Rattle.cops_batch.specs.Pieces.{Each, IsCut, IsStoppedByGate, MayHoldPiece};
 ghost use Rattle.cops_batch.specs.Found.{IsSearched};
 ghost use Rattle.cops_batch.specs.declared.pieces.PieceState.TheVariants.{Fine};
 ghost use Rattle.cops_batch.specs.declared.fault.BatchFault.TheVariants.{BadWorkers, Held};
@@ -16,7 +16,7 @@ use std::alloc::{AllocError, Global};
 /// Whether no worker failed. `Held` is reported before `Memory`.
 pub fn finished<G: Gate>(gate: &G, pieces: &[Piece], count: usize) -> Result<(), BatchFault>
     requires cut { IsCut 0 0 pieces.now count }
-    requires held { Each (IsHeldByGate (G.may_hold gate.now)) pieces.now }
+    requires held { Each (IsStoppedByGate (G.may_hold gate.now)) pieces.now }
     ensures fine { OnOk result (Each (λ p. p.state ≡ Fine) pieces.now) }
     ensures bad { IfErr result (λ e. e ≢ BadWorkers) }
     ensures held { IsErrOf result Held → (i : ℕ) × (i < length pieces.now) × MayHoldPiece (G.may_hold gate.now) i }
@@ -78,7 +78,7 @@ pub fn joined_before_stale<G: Gate>(
 ) -> Result<Option<Verdict>, BatchFault>
     requires rising { Rises puts.now.table }
     requires cut { IsCut 0 0 pieces.now (length puts.now.names) }
-    requires held { Each (IsHeldByGate (G.may_hold gate.now)) pieces.now }
+    requires held { Each (IsStoppedByGate (G.may_hold gate.now)) pieces.now }
     requires found { Each (λ p. p.state ≡ Fine → IsSearched puts.now p) pieces.now }
     ensures refused { IfOk result (λ r. IfSome r (IsVerdict puts.now.sessions)) }
     ensures sources { IfOk result (λ r. IfNone r (AllHaveSources puts.now.sessions)) }

@@ -2,7 +2,7 @@ ghost use Rattle.std.specs.Prelude.{◌≡◌, ◌<◌, ℕ, IfOk, OnOk, length,
 ghost use Rattle.cops_types.specs.Verdicts.{AllAbove, AllHaveSources};
 ghost use Rattle.cops_audit.specs.Tables.{Rises};
 ghost use Rattle.cops_batch.specs.Found.{HasDoubled, HasStale, IsSearched};
-ghost use Rattle.cops_batch.specs.Pieces.{IsCut, IsHeldByGate, IsReady, LiesWithin, SamePlace, piece_len};
+ghost use Rattle.cops_batch.specs.Pieces.{IsCut, IsStoppedByGate, IsReady, LiesWithin, SamePlace, piece_len};
 ghost use Rattle.cops_batch.specs.declared.pieces.Piece.{Piece};
 ghost use Rattle.cops_batch.specs.declared.pieces.PieceState.TheVariants.{Fine};
 
@@ -78,9 +78,9 @@ pub fn cut(alloc: Global, count: usize, workers: u8) -> Result<Vec<Piece>, Alloc
 
 /// Ends a worker's piece: passes the gate, which may hold the worker, unless it held it before.
 pub fn leave<R: Wait, G: Gate>(rt: &R, gate: &G, piece: &mut Piece)
-    requires { IsHeldByGate (G.may_hold gate.now) piece.old }
+    requires { IsStoppedByGate (G.may_hold gate.now) piece.old }
     ensures place { SamePlace piece.old piece.new }
-    ensures held { IsHeldByGate (G.may_hold gate.now) piece.new }
+    ensures held { IsStoppedByGate (G.may_hold gate.now) piece.new }
     ensures found { piece.new.state ≡ Fine → piece.new ≡ piece.old }
 {
     if let PieceState::Held = piece.state {
@@ -111,7 +111,7 @@ pub fn look_for_doubled<R: Wait, G: Gate>(
 )
     requires { LiesWithin (length puts.now.names) piece.old }
     ensures place { SamePlace piece.old piece.new }
-    ensures held { IsHeldByGate (G.may_hold gate.now) piece.new }
+    ensures held { IsStoppedByGate (G.may_hold gate.now) piece.new }
     ensures found { piece.new.state ≡ Fine → HasDoubled puts.now piece.new }
 {
     if gate.pass(rt, Point::PieceStart(piece.number)).is_err() {
@@ -148,7 +148,7 @@ pub fn look_before_stale<R: Wait, G: Gate>(
     requires rising { Rises puts.now.table }
     requires within { LiesWithin (length puts.now.names) piece.old }
     ensures place { SamePlace piece.old piece.new }
-    ensures held { IsHeldByGate (G.may_hold gate.now) piece.new }
+    ensures held { IsStoppedByGate (G.may_hold gate.now) piece.new }
     ensures found { piece.new.state ≡ Fine → IsSearched puts.now piece.new }
 {
     if gate.pass(rt, Point::PieceStart(piece.number)).is_err() {
@@ -185,7 +185,7 @@ pub fn look_for_stale<R: Wait, G: Gate>(
     requires above { AllAbove tables.now.sessions }
     requires ready { IsReady (length tables.now.names) (G.may_hold gate.now) piece.old }
     ensures place { SamePlace piece.old piece.new }
-    ensures held { IsHeldByGate (G.may_hold gate.now) piece.new }
+    ensures held { IsStoppedByGate (G.may_hold gate.now) piece.new }
     ensures found { piece.new.state ≡ Fine → HasStale tables.now piece.new }
 {
     if let PieceState::Held = piece.state {

@@ -2,7 +2,7 @@ ghost use Rattle.std.specs.Prelude.{◌≡◌, ◌<◌, length, All};
 ghost use Rattle.cops_types.specs.Verdicts.{AllAbove, AllHaveSources};
 ghost use Rattle.cops_audit.specs.Tables.{Rises};
 ghost use Rattle.cops_batch.specs.Found.{HasDoubled, HasStale, IsSearched};
-ghost use Rattle.cops_batch.specs.Pieces.{Each, IsHeldByGate, IsReady, LiesWithin, SamePlace, SamePlaces};
+ghost use Rattle.cops_batch.specs.Pieces.{Each, IsStoppedByGate, IsReady, LiesWithin, SamePlace, SamePlaces};
 ghost use Rattle.cops_batch.specs.declared.pieces.PieceState.TheVariants.{Fine};
 
 use crate::pieces::{Piece, leave, look_before_stale, look_for_doubled, look_for_stale};
@@ -26,7 +26,7 @@ pub fn round_of_doubled<R: Threads + Wait + Sync, G: Gate>(
     requires some { 0 < length pieces.old }
     ensures len { length pieces.new ≡ length pieces.old }
     ensures places { SamePlaces pieces.old pieces.new }
-    ensures held { Each (IsHeldByGate (G.may_hold gate.now)) pieces.new }
+    ensures held { Each (IsStoppedByGate (G.may_hold gate.now)) pieces.new }
     ensures found { Each (λ p. p.state ≡ Fine → HasDoubled puts.now p) pieces.new }
 {
     let threads = pieces.len();
@@ -37,7 +37,7 @@ pub fn round_of_doubled<R: Threads + Wait + Sync, G: Gate>(
         &|_, piece: &mut Piece|
             requires { LiesWithin (length puts.now.names) piece.now }
             ensures place { SamePlace piece.entry.now piece.exit.now }
-            ensures held { IsHeldByGate (G.may_hold gate.entry.now) piece.exit.now }
+            ensures held { IsStoppedByGate (G.may_hold gate.entry.now) piece.exit.now }
             ensures found { piece.exit.now.state ≡ Fine → HasDoubled puts.entry.now piece.exit.now }
         { look_for_doubled(rt, alloc, puts, gate, piece) },
     );
@@ -57,7 +57,7 @@ pub fn round_before_stale<R: Threads + Wait + Sync, G: Gate>(
     requires some { 0 < length pieces.old }
     ensures len { length pieces.new ≡ length pieces.old }
     ensures places { SamePlaces pieces.old pieces.new }
-    ensures held { Each (IsHeldByGate (G.may_hold gate.now)) pieces.new }
+    ensures held { Each (IsStoppedByGate (G.may_hold gate.now)) pieces.new }
     ensures found { Each (λ p. p.state ≡ Fine → IsSearched puts.now p) pieces.new }
 {
     let threads = pieces.len();
@@ -69,7 +69,7 @@ pub fn round_before_stale<R: Threads + Wait + Sync, G: Gate>(
             requires rising { Rises puts.now.table }
             requires within { LiesWithin (length puts.now.names) piece.now }
             ensures place { SamePlace piece.entry.now piece.exit.now }
-            ensures held { IsHeldByGate (G.may_hold gate.entry.now) piece.exit.now }
+            ensures held { IsStoppedByGate (G.may_hold gate.entry.now) piece.exit.now }
             ensures found { piece.exit.now.state ≡ Fine → IsSearched puts.entry.now piece.exit.now }
         { look_before_stale(rt, alloc, puts, gate, piece) },
     );
@@ -89,7 +89,7 @@ pub fn round_of_stale<R: Threads + Wait + Sync, G: Gate>(
     requires some { 0 < length pieces.old }
     ensures len { length pieces.new ≡ length pieces.old }
     ensures places { SamePlaces pieces.old pieces.new }
-    ensures held { Each (IsHeldByGate (G.may_hold gate.now)) pieces.new }
+    ensures held { Each (IsStoppedByGate (G.may_hold gate.now)) pieces.new }
     ensures found { Each (λ p. p.state ≡ Fine → HasStale tables.now p) pieces.new }
 {
     let threads = pieces.len();
@@ -102,7 +102,7 @@ pub fn round_of_stale<R: Threads + Wait + Sync, G: Gate>(
             requires above { AllAbove tables.now.sessions }
             requires ready { IsReady (length tables.now.names) (G.may_hold gate.now) piece.now }
             ensures place { SamePlace piece.entry.now piece.exit.now }
-            ensures held { IsHeldByGate (G.may_hold gate.entry.now) piece.exit.now }
+            ensures held { IsStoppedByGate (G.may_hold gate.entry.now) piece.exit.now }
             ensures found { piece.exit.now.state ≡ Fine → HasStale tables.entry.now piece.exit.now }
         { look_for_stale(rt, alloc, tables, gate, piece) },
     );
@@ -115,11 +115,11 @@ pub fn round_without_search<R: Threads + Wait + Sync, G: Gate>(
     gate: &G,
     pieces: &mut [Piece],
 )
-    requires held { All (IsHeldByGate (G.may_hold gate.now)) pieces.old }
+    requires held { All (IsStoppedByGate (G.may_hold gate.now)) pieces.old }
     requires some { 0 < length pieces.old }
     ensures len { length pieces.new ≡ length pieces.old }
     ensures places { SamePlaces pieces.old pieces.new }
-    ensures held { Each (IsHeldByGate (G.may_hold gate.now)) pieces.new }
+    ensures held { Each (IsStoppedByGate (G.may_hold gate.now)) pieces.new }
 {
     let threads = pieces.len();
     thread::for_each_mut(
@@ -127,9 +127,9 @@ pub fn round_without_search<R: Threads + Wait + Sync, G: Gate>(
         pieces,
         threads,
         &|_, piece: &mut Piece|
-            requires { IsHeldByGate (G.may_hold gate.now) piece.now }
+            requires { IsStoppedByGate (G.may_hold gate.now) piece.now }
             ensures place { SamePlace piece.entry.now piece.exit.now }
-            ensures held { IsHeldByGate (G.may_hold gate.entry.now) piece.exit.now }
+            ensures held { IsStoppedByGate (G.may_hold gate.entry.now) piece.exit.now }
         { leave(rt, gate, piece) },
     );
 }

@@ -9,7 +9,7 @@ use Rattle.cops_cluster.specs.Opening.{AreClientsAt, AreReceivers}
 use Rattle.cops_cluster.specs.declared.client.Client.{Client}
 use Rattle.cops_cluster.specs.declared.cluster.Cluster.{Cluster}
 use Rattle.cops_cluster.specs.declared.share.Holder.{Holder}
-use Rattle.cops_cluster.specs.declared.share.Holder.TheVariants.{Client as HeldByClient, Receiver as HeldByReceiver}
+use Rattle.cops_cluster.specs.declared.share.Holder.TheVariants.{Client as OfClient, Receiver as OfReceiver}
 use Rattle.cops_cluster.specs.declared.share.Share.{Share}
 use Rattle.cops_replication.specs.Wiring.{numbers, AreReceivers as AreWired}
 use Rattle.cops_replication.specs.declared.receiver.Receiver.{Receiver}
@@ -25,8 +25,8 @@ pub all_there : (clients dcs : ℕ) (jobs : List ClientTask) (receivers : List R
     → holders shares ≡ callers jobs receivers → AreAll clients dcs shares
 all_there clients dcs jobs receivers shares numbered placed are =
     all_seated clients dcs shares
-    (are ∙ ap (λ (l : List Holder). l ++ map (λ (r : Receiver). HeldByReceiver r.dc) receivers) (map_twice (λ (j : ClientTask). j.client.number) HeldByClient jobs ∙ ap (map HeldByClient) numbered)
-    ∙ ap (λ (l : List Holder). map HeldByClient (numbers clients) ++ l) (map_twice (λ (r : Receiver). r.dc) HeldByReceiver receivers ∙ ap (map HeldByReceiver) placed))
+    (are ∙ ap (λ (l : List Holder). l ++ map (λ (r : Receiver). OfReceiver r.dc) receivers) (map_twice (λ (j : ClientTask). j.client.number) OfClient jobs ∙ ap (map OfClient) numbered)
+    ∙ ap (λ (l : List Holder). map OfClient (numbers clients) ++ l) (map_twice (λ (r : Receiver). r.dc) OfReceiver receivers ∙ ap (map OfReceiver) placed))
 
 -- it is so when the threads have returned shares
 pub all_driven : (s : Setting) (jobs : List ClientTask) (receivers : List Receiver) (c : Cluster) (r : Result Gathered RunFault) → AreJobsOf s jobs → AreReceiversOf s receivers
@@ -55,7 +55,7 @@ jobs_of s clients jobs setting (len, numbered, homes, contexts, held, entries) a
       omega (arith, number, within),
       home_is ∙ ap (λ (n : ℕ). slice_index_or s.homes n 0) (sym number),
       subst (λ (n : ℕ). n < s.place.dcs) (sym home_is) (setting.homes k 0 within),
-      held k d within ∙ ap HeldByClient (sym number),
+      held k d within ∙ ap OfClient (sym number),
     ) in
     let all : All (IsClientOf s) (map (λ (j : ClientTask). j.client) jobs) = subst (λ (l : List Client). All (IsClientOf s) l) (sym are) each in (
       numbers_of_jobs jobs ∙ ap (map (λ (c : Client). c.number)) are ∙ numbered_from (λ (c : Client). c.number) clients 0 (length s.homes) len (λ k d less. numbered k d less ∙ omega arith),
@@ -65,4 +65,4 @@ jobs_of s clients jobs setting (len, numbered, homes, contexts, held, entries) a
 -- the receivers that were made with the cluster's shares
 pub receivers_of : (s : Setting) (shares : List Share) (receivers : List Receiver) → AreReceivers s.place.dcs shares → AreWired s.place.dcs shares receivers → AreReceiversOf s receivers
 receivers_of s shares receivers (len, held, entries) (dcs, are, fresh) =
-    (dcs, placed_from receivers shares 0 s.place.dcs dcs are (λ k d less. held k d less ∙ ap HeldByReceiver (omega arith)))
+    (dcs, placed_from receivers shares 0 s.place.dcs dcs are (λ k d less. held k d less ∙ ap OfReceiver (omega arith)))

@@ -1,7 +1,7 @@
 -- One more than the greatest ticket.
 use Rattle.std.proofs.Common.{◌≡◌, ℕ, ◌+◌, max, min, List, [], ◌∷◌, ◌++◌, refl}
 use Rattle.std.specs.Global.{Vec}
-use Rattle.cops_book.specs.declared.entry.Entry.{Entry}
+use Rattle.cops_node.specs.declared.entry.Entry.{Entry}
 use Rattle.cops_clients.specs.Live.{above_entries, ticket_above}
 
 -- appending one entry

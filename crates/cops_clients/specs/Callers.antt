@@ -4,14 +4,14 @@ use Rattle.std.specs.List.{All}
 use Rattle.cops_core.specs.World.{Setting, home}
 use Rattle.cops_cluster.specs.declared.client.Client.{Client}
 use Rattle.cops_cluster.specs.declared.share.Holder.{Holder}
-use Rattle.cops_cluster.specs.declared.share.Holder.TheVariants.{Client as HeldByClient, Receiver as HeldByReceiver}
+use Rattle.cops_cluster.specs.declared.share.Holder.TheVariants.{Client as OfClient, Receiver as OfReceiver}
 use Rattle.cops_replication.specs.Wiring.{numbers}
 use Rattle.cops_replication.specs.declared.receiver.Receiver.{Receiver}
 use Rattle.cops_clients.specs.declared.clients.ClientTask.{ClientTask}
 
 -- one of the setting's clients, in its data centre, with a share of its own
 abbrev pub IsClientOf : Setting → Client → Type 0
-IsClientOf s c = (c.number < length s.homes) × (c.dc ≡ home s c.number) × (c.dc < s.place.dcs) × (c.share.holder ≡ HeldByClient c.number)
+IsClientOf s c = (c.number < length s.homes) × (c.dc ≡ home s c.number) × (c.dc < s.place.dcs) × (c.share.holder ≡ OfClient c.number)
 
 -- each of the setting's clients has a job, in order
 abbrev pub AreJobsOf : Setting → List ClientTask → Type 0
@@ -19,8 +19,8 @@ AreJobsOf s jobs = (map (λ (j : ClientTask). j.client.number) jobs ≡ numbers 
 
 -- the receiver of each data centre of the setting, in order, with a share of its own
 abbrev pub AreReceiversOf : Setting → List Receiver → Type 0
-AreReceiversOf s receivers = (map (λ (r : Receiver). r.dc) receivers ≡ numbers s.place.dcs) × All (λ (r : Receiver). r.share.holder ≡ HeldByReceiver r.dc) receivers
+AreReceiversOf s receivers = (map (λ (r : Receiver). r.dc) receivers ≡ numbers s.place.dcs) × All (λ (r : Receiver). r.share.holder ≡ OfReceiver r.dc) receivers
 
 -- the clients of these jobs, and then these receivers
 abbrev pub callers : List ClientTask → List Receiver → List Holder
-callers jobs receivers = map (λ (j : ClientTask). HeldByClient j.client.number) jobs ++ map (λ (r : Receiver). HeldByReceiver r.dc) receivers
+callers jobs receivers = map (λ (j : ClientTask). OfClient j.client.number) jobs ++ map (λ (r : Receiver). OfReceiver r.dc) receivers

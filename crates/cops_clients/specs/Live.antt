@@ -9,7 +9,7 @@ use Rattle.cops_trace.specs.Live.{Gains, IsCutShort}
 use Rattle.cops_trace.specs.Text.{record_of}
 use Rattle.cops_trace.specs.declared.live.LiveTrace.{LiveTrace}
 use Rattle.cops_trace.specs.declared.record.Record.{Record}
-use Rattle.cops_book.specs.declared.entry.Entry.{Entry}
+use Rattle.cops_node.specs.declared.entry.Entry.{Entry}
 use Rattle.cops_clients.specs.declared.fault.RunFault.{RunFault}
 use Rattle.cops_clients.specs.declared.fault.RunFault.TheVariants.{Memory, Untied, WriteFailed}
 

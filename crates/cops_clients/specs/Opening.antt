@@ -1,6 +1,6 @@
 -- What a run starts with.
 use Rattle.std.specs.Prelude.{◌≡◌, List, slice_index_or}
-use Rattle.cops_core.specs.declared.script.ScriptedClient.{ScriptedClient}
+use Rattle.cops_scenario.specs.declared.script.ScriptedClient.{ScriptedClient}
 use Rattle.cops_clients.specs.declared.clients.ClientTask.{ClientTask}
 
 -- the job's script is that of the scripted client at its client's number

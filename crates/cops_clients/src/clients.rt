@@ -8,7 +8,7 @@ use crate::ends::{End, Returned};
 use crate::state::RunState;
 use crate::tries::Tries;
 use cops_cluster::Client;
-use cops_core::ScriptOp;
+use cops_scenario::ScriptOp;
 use cops_tie::ClientOutcome;
 use cops_types::{Gate, GateHeld, Refusal};
 use std::sync::Wait;

@@ -1,6 +1,6 @@
 //! Starting the threads of a run, and joining them: clients, then senders, then receivers.
 ghost use Rattle.std.specs.Prelude.{◌≡◌, ◌⊎◌, ◌+◌, ℕ, [], ◌++◌, All, Err, IfOk, IsErrOf, IsTrue, OnOk, length, map};
-ghost use Rattle.cops_cluster.specs.declared.share.Holder.TheVariants.{Client as HeldByClient, Receiver as HeldByReceiver};
+ghost use Rattle.cops_cluster.specs.declared.share.Holder.TheVariants.{Client as OfClient, Receiver as OfReceiver};
 ghost use Rattle.cops_clients.specs.Gates.{MayHold, MayHoldIn, MayHoldReceiving};
 ghost use Rattle.cops_cluster.specs.Close.{holders};
 ghost use Rattle.cops_clients.specs.Callers.{AreJobsOf, AreReceiversOf, callers};
@@ -167,7 +167,7 @@ fn start_clients<'s, E, R: Threads + Wait + Sync, G: Gate>(
     requires place { state.now.cluster.place ≡ setting.now.place }
     requires jobs { AreJobsOf setting.now jobs.items }
     requires none { handles.old.items ≡ [] }
-    ensures all { OnOk result (map (λ (h : _). h.promise.owner) handles.new.items ≡ map (λ j. HeldByClient j.client.number) jobs.entry.items) }
+    ensures all { OnOk result (map (λ (h : _). h.promise.owner) handles.new.items ≡ map (λ j. OfClient j.client.number) jobs.entry.items) }
     ensures promised { All (λ (h : _). (h.promise.gate.value ≡ gate.now) × (h.promise.setting.value ≡ setting.now)) handles.new.items }
     ensures fault { result ≡ Err RunFault.Held → ⊥ }
     ensures unwritten { (n : ℕ) → result ≡ Err (RunFault.WriteFailed n) → ⊥ }
@@ -228,7 +228,7 @@ fn start_receivers<'s, E, R: Threads + Wait + Sync, G: Gate>(
     requires place { state.now.cluster.place ≡ setting.now.place }
     requires receivers { AreReceiversOf setting.now receivers.items }
     requires none { handles.old.items ≡ [] }
-    ensures all { OnOk result (map (λ (h : _). h.promise.owner) handles.new.items ≡ map (λ r. HeldByReceiver r.dc) receivers.items) }
+    ensures all { OnOk result (map (λ (h : _). h.promise.owner) handles.new.items ≡ map (λ r. OfReceiver r.dc) receivers.items) }
     ensures promised { All (λ (h : _). (h.promise.gate.value ≡ gate.now) × (h.promise.setting.value ≡ setting.now)) handles.new.items }
     ensures fault { result ≡ Err RunFault.Held → ⊥ }
     ensures unwritten { (n : ℕ) → result ≡ Err (RunFault.WriteFailed n) → ⊥ }

@@ -8,9 +8,9 @@ ghost use Rattle.cops_clients.specs.Callers.{AreJobsOf, AreReceiversOf};
 use crate::clients::ClientTask;
 use crate::state::RunState;
 use cops_cluster::{Client, Cluster, Opened};
-use cops_core::{ScriptedClient, Setting};
+use cops_core::Setting;
 use cops_replication::{Replicas, wired};
-use cops_scenario::Scenario;
+use cops_scenario::{Scenario, ScriptedClient};
 use cops_types::Memory;
 use std::alloc::Global;
 

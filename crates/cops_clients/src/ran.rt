@@ -1,5 +1,5 @@
-use cops_book::Entry;
 use cops_core::Event;
+use cops_node::Entry;
 use cops_tie::ClientOutcome;
 use cops_trace::Trace;
 

@@ -6,8 +6,8 @@ ghost use Rattle.cops_clients.specs.Trying.{refusal_in};
 
 use crate::state::RunState;
 use cops_cluster::Client;
-use cops_core::ScriptOp;
 use cops_node::Outcome;
+use cops_scenario::ScriptOp;
 use cops_types::{Gate, GateHeld, Refusal};
 use std::sync::Wait;
 

@@ -2,7 +2,7 @@
 use Rattle.std.proofs.Common.{◌≡◌, ℕ, ◌+◌, ◌<◌, List, [], ◌∷◌, ◌++◌, length, get_or, slice_index_or, sym, subst, arith, length-append, below_more}
 use Rattle.std.proofs.lemmas.List.{get_or_append_left, get_or_push}
 use Rattle.cops_cluster.specs.declared.client.Client.{Client}
-use Rattle.cops_cluster.specs.declared.share.Holder.TheVariants.{Client as HeldByClient}
+use Rattle.cops_cluster.specs.declared.share.Holder.TheVariants.{Client as OfClient}
 use Rattle.cops_cluster.specs.Opening.{AreClientsAt}
 
 -- a property that n clients have by their places also holds of one more
@@ -17,14 +17,14 @@ each_more P n cs x len before here = λ k d less.
 
 -- appending a client with its number and its data centre, whose context and share are empty
 pub clients_more : (dcs : List ℕ) (n : ℕ) (cs after : List Client) (x : Client) → after ≡ cs ++ x ∷ [] → x.number ≡ n → x.dc ≡ slice_index_or dcs n 0
-    → x.context.pairs ≡ [] → x.share.holder ≡ HeldByClient n → x.share.entries.items ≡ [] → AreClientsAt dcs n cs → AreClientsAt dcs (n + 1) after
+    → x.context.pairs ≡ [] → x.share.holder ≡ OfClient n → x.share.entries.items ≡ [] → AreClientsAt dcs n cs → AreClientsAt dcs (n + 1) after
 clients_more dcs n cs after x now number dc context holder entries (len, numbers, places, contexts, holders, shares) =
     let all : AreClientsAt dcs (n + 1) (cs ++ x ∷ []) = (
       omega (arith, len, length-append cs (x ∷ [])),
       each_more (λ k c. c.number ≡ k) n cs x len numbers number,
       each_more (λ k c. c.dc ≡ slice_index_or dcs k 0) n cs x len places dc,
       each_more (λ k c. c.context.pairs ≡ []) n cs x len contexts context,
-      each_more (λ k c. c.share.holder ≡ HeldByClient k) n cs x len holders holder,
+      each_more (λ k c. c.share.holder ≡ OfClient k) n cs x len holders holder,
       each_more (λ k c. c.share.entries.items ≡ []) n cs x len shares entries,
     ) in
     subst (λ (l : List Client). AreClientsAt dcs (n + 1) l) (sym now) all

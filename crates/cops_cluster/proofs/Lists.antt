@@ -2,8 +2,8 @@
 use Rattle.std.proofs.Common.{◌≡◌, ℕ, ◌+◌, ◌<◌, List, [], ◌∷◌, ◌++◌, length, map, get_or, sym, ◌∙◌, ap, refl, subst, arith, add-zero, append_assoc, append-nil, length-append, below_more}
 use Rattle.std.proofs.lemmas.List.{get_or_append_left, get_or_push}
 use Rattle.std.specs.Global.{Vec}
-use Rattle.cops_book.specs.declared.entry.Entry.{Entry}
-use Rattle.cops_book.specs.Book.{ABook}
+use Rattle.cops_node.specs.declared.entry.Entry.{Entry}
+use Rattle.cops_node.specs.Book.{ABook}
 use Rattle.cops_cluster.specs.Shares.{made}
 use Rattle.cops_cluster.specs.Close.{IsReplay, AllReplay, entries_at, made_by, made_in, number_of}
 

@@ -5,7 +5,7 @@ use Rattle.cops_types.specs.declared.gate.GateHeld.{GateHeld}
 use Rattle.cops_types.specs.declared.gate.Point.{Point}
 use Rattle.cops_node.specs.declared.outcome.Outcome.{Outcome}
 use Rattle.cops_cluster.specs.declared.fault.Stop.{Stop}
-use Rattle.cops_cluster.specs.declared.fault.Stop.TheVariants.{Refused, GateHeld as HeldThere}
+use Rattle.cops_cluster.specs.declared.fault.Stop.TheVariants.{Refused, GateHeld as StoppedThere}
 use Rattle.cops_cluster.specs.declared.receiving.Yes.{Yes}
 use Rattle.cops_cluster.specs.declared.stepping.NodeReply.{NodeReply}
 use Rattle.cops_cluster.specs.declared.stepping.CopiedOutcome.{CopiedOutcome}
@@ -22,7 +22,7 @@ unasked_of answer dc version dep may_hold at client (Refused code) out unasked o
   λ h. true_is_false (is_of_node out) h (ap is_of_node reported ∙ other),
   λ _. subst (λ (o : Outcome). IsUnaskedMark answer dc version dep o) (sym reported) unasked,
 )
-unasked_of answer dc version dep may_hold at client HeldThere out unasked other reported = absurd reported
+unasked_of answer dc version dep may_hold at client StoppedThere out unasked other reported = absurd reported
 
 -- the result of a mark is a node's answer, where the mark was allowed, or why no node was asked
 pub reported_marked : (answer : Yes) (dc version dep : ℕ) (may_hold : Point → Type 0) (at client number : ℕ) (answered : Result CopiedOutcome Stop) (reply : Result NodeReply Stop) (result : Result Outcome GateHeld)

@@ -18,7 +18,7 @@ use Rattle.cops_node.specs.declared.outcome.Outcome.{Outcome}
 use Rattle.cops_node.specs.declared.outcome.Outcome.TheVariants.{Yes, Wait, Refused as RefusedWith}
 use Rattle.cops_cluster.specs.declared.share.Made.{Made}
 use Rattle.cops_cluster.specs.declared.fault.Stop.{Stop}
-use Rattle.cops_cluster.specs.declared.fault.Stop.TheVariants.{Refused, GateHeld as HeldThere}
+use Rattle.cops_cluster.specs.declared.fault.Stop.TheVariants.{Refused, GateHeld as StoppedThere}
 use Rattle.cops_cluster.specs.declared.stepping.ClientAnswer.{ClientAnswer}
 use Rattle.cops_cluster.specs.declared.stepping.NodeReply.{NodeReply}
 use Rattle.cops_cluster.specs.declared.stepping.CopiedOutcome.{CopiedOutcome}
@@ -78,11 +78,11 @@ module _ (before after : List Made) (node : ℕ) (event : NodeEvent) where
   abbrev pub IsKept : Result NodeReply Stop → Type 0
   IsKept (Ok r) = AddsEntry before after node event r.outcome × (is_of_node r.outcome ≡ true)
   IsKept (Err (Refused code)) = (after ≡ before) × (is_refusal_of_node code ≡ false)
-  IsKept (Err HeldThere) = after ≡ before
+  IsKept (Err StoppedThere) = after ≡ before
 
   kept_stop : (may_hold : Point → Type 0) (at client : ℕ) (stop same : Stop) → same ≡ stop → after ≡ before → IsStop may_hold at client stop → IsKept (Err same)
   kept_stop may_hold at client (Refused code) same e none other = subst (λ (s : Stop). IsKept (Err s)) (sym e) (none, other)
-  kept_stop may_hold at client HeldThere same e none other = subst (λ (s : Stop). IsKept (Err s)) (sym e) none
+  kept_stop may_hold at client StoppedThere same e none other = subst (λ (s : Stop). IsKept (Err s)) (sym e) none
 
   pub seen_kept : (may_hold : Point → Type 0) (at client number : ℕ) (answered : Result CopiedOutcome Stop) (reply : Result NodeReply Stop)
       → IfOk answered (λ t. AddsEntry before after node event t.outcome) → IfOk answered (λ t. (t.seen ≡ t.outcome) × (is_of_node t.outcome ≡ true))
@@ -108,13 +108,13 @@ module _ (before after : List Made) (node : ℕ) (event : NodeEvent) where
   reported_adds (Ok r) (Ok out) kept is =
       (λ _. subst (λ (o : Outcome). AddsEntry before after node event o) (sym is) kept.0, λ other. true_is_false (is_of_node out) (ap is_of_node is ∙ kept.1) other)
   reported_adds (Err (Refused code)) (Ok out) kept is = (λ h. true_is_false (is_of_node out) h (ap is_of_node is ∙ kept.1), λ _. kept.0)
-  reported_adds (Err HeldThere) (Ok out) kept is = absurd is
+  reported_adds (Err StoppedThere) (Ok out) kept is = absurd is
 
   -- the share gains at most one entry in any case
   pub most_adds : (reply : Result NodeReply Stop) → IsKept reply → AddsAtMostOne before after node event
   most_adds (Ok r) kept = inr (r.outcome, kept.0)
   most_adds (Err (Refused code)) kept = inl kept.0
-  most_adds (Err HeldThere) kept = inl kept
+  most_adds (Err StoppedThere) kept = inl kept
 
 -- the client's context is the one that follows from the outcome which the caller gets
 pub reported_context : (after : Outcome → List Dep) (pairs new : List Dep) (answered : Result ClientAnswer Stop) (reply : Result NodeReply Stop) (result : Result Outcome GateHeld)
@@ -125,7 +125,7 @@ reported_context after pairs new (Ok a) (Ok r) (Ok out) refused is none same rep
 reported_context after pairs new (Ok a) (Err s) (Ok out) refused is none same reported = absurd same
 reported_context after pairs new (Err s) (Ok r) (Ok out) refused is none same reported = absurd same
 reported_context after pairs new (Err s) (Err (Refused code)) (Ok out) refused is none same reported = none ∙ sym (refused code) ∙ ap after (sym reported)
-reported_context after pairs new (Err s) (Err HeldThere) (Ok out) refused is none same reported = absurd reported
+reported_context after pairs new (Err s) (Err StoppedThere) (Ok out) refused is none same reported = absurd reported
 
 -- `AddsEntry` with equal arguments replaced
 pub adds_same : (a b c d : List Made) (m n : ℕ) (e f : NodeEvent) (out : Outcome) → a ≡ b → c ≡ d → m ≡ n → e ≡ f → AddsEntry a c m e out → AddsEntry b d n f out
@@ -142,7 +142,7 @@ most_at before after n m e f p q h = subst (λ (k : ℕ). AddsAtMostOne before a
 
 out_of_memory_of : (stop : Stop) (out : Outcome) → StopsWith IsOutOfMemory stop → IsReplyOf (Err stop) out → IsOutOfMemory out
 out_of_memory_of (Refused code) out want reported = reported ∙ want
-out_of_memory_of HeldThere out want reported = absurd reported
+out_of_memory_of StoppedThere out want reported = absurd reported
 
 -- a node's answer to a client's write, in both branches
 if_written : (content : Option (List ℕ)) (b : Bool) (x y : Outcome × Node) → IsWriteOutcome content x.0 → IsWriteOutcome content y.0 → IsWriteOutcome content (if b then x else y).0

@@ -4,10 +4,10 @@ use Rattle.std.specs.List.{list_any}
 use Rattle.std.specs.Global.{Vec}
 use Rattle.cops_node.specs.Node.{Node, opened}
 use Rattle.cops_types.specs.NodeNumber.{node_number}
-use Rattle.cops_book.specs.Book.{ABook, Replays}
-use Rattle.cops_book.specs.declared.entry.Entry.{Entry}
+use Rattle.cops_node.specs.Book.{ABook, Replays}
+use Rattle.cops_node.specs.declared.entry.Entry.{Entry}
 use Rattle.cops_cluster.specs.declared.share.Holder.{Holder}
-use Rattle.cops_cluster.specs.declared.share.Holder.TheVariants.{Client as HeldByClient, Receiver as HeldByReceiver}
+use Rattle.cops_cluster.specs.declared.share.Holder.TheVariants.{Client as OfClient, Receiver as OfReceiver}
 use Rattle.cops_cluster.specs.declared.share.Made.{Made}
 use Rattle.cops_cluster.specs.declared.share.Share.{Share}
 use Rattle.cops_cluster.specs.Shares.{made}
@@ -45,8 +45,8 @@ reported (s ∷ ss) = s.entries.items ++ reported ss
 
 -- whether a holder has this seat: the clients have the first seats, and the receivers follow
 abbrev pub is_seat : ℕ → ℕ → Holder → Bool
-is_seat clients seat (HeldByClient number) = (number == seat) && nat_lt number clients
-is_seat clients seat (HeldByReceiver dc) = clients + dc == seat
+is_seat clients seat (OfClient number) = (number == seat) && nat_lt number clients
+is_seat clients seat (OfReceiver dc) = clients + dc == seat
 
 -- exactly one share for each client and each receiver
 abbrev pub AreAll : ℕ → ℕ → List Share → Type 0

@@ -12,9 +12,9 @@ use Rattle.cops_node.specs.declared.outcome.Outcome.{Outcome}
 use Rattle.cops_node.specs.declared.outcome.Outcome.TheVariants.{Got, Gone, Missed}
 use Rattle.cops_place.specs.Place.{primary}
 use Rattle.cops_types.specs.NodeNumber.{node_number}
-use Rattle.cops_book.specs.Book.{puts_in}
-use Rattle.cops_book.specs.declared.entry.Entry.{Entry}
-use Rattle.cops_book.specs.declared.reported.IssuedPuts.{IssuedPuts}
+use Rattle.cops_node.specs.Book.{puts_in}
+use Rattle.cops_node.specs.declared.entry.Entry.{Entry}
+use Rattle.cops_node.specs.declared.recorded.IssuedPuts.{IssuedPuts}
 use Rattle.cops_cluster.specs.declared.client.Client.{Client}
 use Rattle.cops_cluster.specs.declared.cluster.Cluster.{Cluster}
 use Rattle.cops_cluster.specs.declared.fault.Stop.{Stop}

@@ -1,7 +1,7 @@
 -- What closing a cluster returns when it fails.
 use Rattle.std.specs.Prelude.{◌≡◌, ◌+◌, ◌*◌, ◌≤◌, ℕ, List, length, vec_len, vec_capacity}
 use Rattle.std.specs.Global.{Vec}
-use Rattle.cops_book.specs.declared.entry.Entry.{Entry}
+use Rattle.cops_node.specs.declared.entry.Entry.{Entry}
 use Rattle.cops_cluster.specs.declared.share.Share.{Share}
 use Rattle.cops_cluster.specs.declared.cluster.Cluster.{Cluster}
 use Rattle.cops_cluster.specs.declared.closing.Rooms.{Rooms}

@@ -10,7 +10,7 @@ ghost use Rattle.cops_cluster.specs.Differences.{IsLeastDifference};
 use crate::cluster::Cluster;
 use crate::differing::difference;
 use crate::share::{Holder, Share};
-use cops_book::{Book, Entry};
+use cops_node::{Book, Entry};
 use cops_record::IntoTraceFault;
 use cops_trace::Trace;
 use cops_types::{Memory, PLACES};

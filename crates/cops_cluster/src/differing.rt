@@ -12,7 +12,7 @@ ghost use Rattle.cops_cluster.specs.Differing.{shown, ticket_of};
 use crate::closing::number_at;
 use crate::noted::Noted;
 use crate::share::Share;
-use cops_book::{Book, Entry};
+use cops_node::{Book, Entry};
 use std::alloc::{AllocError, Global};
 
 /// The least ticket at which the entries of the books and of the shares differ; `None` where both have the same

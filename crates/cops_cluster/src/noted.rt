@@ -1,7 +1,7 @@
 //! Log entries with their nodes' numbers, to be sorted by ticket.
 ghost use Rattle.std.specs.Prelude.{◌≡◌};
 
-use cops_book::Entry;
+use cops_node::Entry;
 
 /// A log entry with its node's number, and its ticket, so that sorting need not look into the entry.
 #[derive(Clone, Copy)]

@@ -9,8 +9,7 @@ use crate::fault::Stop;
 use crate::share::Share;
 use crate::spot::Spot;
 use crate::stepping::{CopiedOutcome, NodeReply, gained, passed};
-use cops_book::{Book, Recorded};
-use cops_node::{Node, NodeEvent, Outcome};
+use cops_node::{Book, Node, NodeEvent, Outcome, Recorded};
 use cops_types::{Dep, Gate, GateHeld, Key, PutRecord, Refusal, Version};
 use std::sync::Wait;
 
@@ -77,7 +76,7 @@ impl Cluster {
     ghost use Rattle.cops_node.specs.declared.event.NodeEvent.TheVariants.{Ask, Deliver, Mark, Settle};
     ghost use Rattle.cops_node.specs.Node.{dep_at, node_step};
     ghost use Rattle.cops_place.specs.Place.{primary};
-    ghost use Rattle.cops_book.specs.Book.{entry};
+    ghost use Rattle.cops_node.specs.Book.{entry};
     ghost use Rattle.cops_cluster.specs.Shares.{Adds, AddsAtMostOne, AddsEntry, is_of_node};
     ghost use Rattle.cops_cluster.specs.Cluster.{IsNode, IsStop, MayHoldStep, node_of};
     ghost use Rattle.cops_cluster.specs.Outcomes.{IsAskOutcome, IsDeliverOutcome, IsMarkOutcome, IsNodeAnswer, IsSettleOutcome, IsOutOfMemory, StopsWith};

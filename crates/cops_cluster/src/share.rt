@@ -1,7 +1,7 @@
 //! What the callers of a cluster were answered.
 ghost use Rattle.std.specs.Prelude.{◌≡◌};
 
-use cops_book::Entry;
+use cops_node::Entry;
 
 /// A log entry, with the number of the node whose step it is.
 #[derive(Debug, Drop)]

@@ -13,8 +13,7 @@ use crate::fault::Stop;
 use crate::refusal::refusal;
 use crate::share::{Made, Share};
 use crate::spot::Spot;
-use cops_book::{Book, Recorded};
-use cops_node::{NodeEvent, Outcome};
+use cops_node::{Book, NodeEvent, Outcome, Recorded};
 use cops_record::Slot;
 use cops_types::{
     Dep, Deps, Gate, GateHeld, Key, Memory, Op, Point, Refusal, Value, Version, content_copy,
@@ -194,7 +193,7 @@ impl Cluster {
     ghost use Rattle.cops_node.specs.Node.{node_step};
     ghost use Rattle.cops_place.specs.Place.{primary};
     ghost use Rattle.cops_types.specs.NodeNumber.{node_number};
-    ghost use Rattle.cops_book.specs.Book.{entry};
+    ghost use Rattle.cops_node.specs.Book.{entry};
     ghost use Rattle.cops_cluster.specs.Shares.{Adds, AddsAtMostOne, AddsEntry, is_refusal_of_node, is_of_node};
     ghost use Rattle.cops_cluster.specs.Cluster.{IsNode, IsSameClient, IsStop, MayHoldStep, after_get, after_write, get_seen, node_of, write_event, write_seen};
     ghost use Rattle.cops_cluster.specs.Outcomes.{IsDelOutcome, IsGetOutcome, IsNodeAnswer, IsPutOutcome, IsUnaskedGet, IsUnaskedWrite, IsUnknown, IsOutOfMemory, IsWriteOutcome, StopsWith};

@@ -1,3 +1,1 @@
-pub mod Scenario
 pub mod Status
-pub mod Reported

@@ -1,9 +1,8 @@
 -- The answers whose acts allocate.
 use Rattle.std.proofs.Common.{◌≡◌, ℕ, ◌+◌, ◌<◌, Bool, true, false, cond, ◌&&◌, List, [], ◌∷◌, Option, Some, None, length, slice_index_or, refl, sym, ap, ◌∙◌, subst, nat_lt}
-use Rattle.cops_types.specs.declared.limits.TheConstants.{MAX_CLOCK}
+use Rattle.cops_types.specs.declared.limits.TheConstants.{MAX_CLOCK, MAX_CLIENT_OPS, MAX_OPS}
 use Rattle.cops_types.specs.declared.refusal.Refusal.TheVariants.{ClockExhausted, ContextFull, UnknownClient, SessionFull}
 use Rattle.std.proofs.lemmas.Bool.{ltb-true}
-use Rattle.cops_types.specs.declared.limits.TheConstants.{MAX_CLIENT_OPS, MAX_OPS}
 use Rattle.cops_types.specs.Counts.{count_of}
 use Rattle.cops_types.specs.Histories.{Sessions}
 use Rattle.cops_store.specs.Store.{Stored, shown}

@@ -15,16 +15,10 @@ use Rattle.cops_node.specs.Node.{dep_at, put_pair, Node, opened, raised, write_a
 use Rattle.std.proofs.Common.{length-append}
 use Rattle.std.proofs.lemmas.List.{length-replicate}
 use Rattle.std.proofs.lemmas.Option.{slice_get_within}
-use Rattle.cops_types.specs.declared.dep.Dep.{Dep}
-use Rattle.cops_types.specs.declared.put_record.PutRecord.{PutRecord}
-use Rattle.cops_types.specs.declared.op.OpName.{OpName}
 use Rattle.cops_types.specs.Histories.{IsNamed, IsPut, IsGot, Operation, op_at, write, read, missed}
 use Rattle.cops_types.proofs.Sessions.{none_within}
 use Rattle.cops_context.specs.Kept.{IsContext}
 use Rattle.cops_held.specs.Held.{waiting}
-use Rattle.cops_node.specs.declared.outcome.Outcome.{Outcome}
-use Rattle.cops_node.specs.declared.outcome.Outcome.TheVariants.{Refused}
-use Rattle.cops_node.specs.Node.{put_pair, Node, opened, raised, write_at}
 use Rattle.cops_core.specs.Dependencies.{HasPut}
 use Rattle.cops_core.specs.Machine.{context_of, session, Step, view}
 use Rattle.cops_core.specs.World.{Setting, IsSetting, home, primary, World, node_at, context_in, sent, is_answered, knows, has_room, has_context_room, is_dc, checks, refusal, keeps, done, Act, Event, act_of, WriteBy, GetBy, DeliverTo, AskAt, MarkAt, SettleAt, happens, Happens, row, rows, opening, Run, IsReached}

@@ -4,8 +4,7 @@ ghost use Rattle.std.specs.Prelude.{◌≡◌, ◌<◌, ◌⊎◌, ◌∷◌, �
 ghost use Rattle.cops_types.specs.declared.refusal.Refusal.TheVariants.{Memory as OutOfMemory, SessionFull, UnknownClient};
 ghost use Rattle.cops_types.specs.Counts.{count_of};
 ghost use Rattle.cops_types.specs.Format.{most_deps, fits};
-ghost use Rattle.cops_types.specs.Histories.{with_op};
-ghost use Rattle.cops_types.specs.Histories.{write};
+ghost use Rattle.cops_types.specs.Histories.{with_op, write};
 ghost use Rattle.cops_types.specs.Operations.{operation_of};
 ghost use Rattle.cops_node.specs.Acts.{Write as NodeWrite};
 ghost use Rattle.cops_node.specs.Node.{ActHappens};

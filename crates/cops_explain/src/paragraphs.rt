@@ -3,8 +3,7 @@ ghost use Rattle.std.specs.Prelude.{◌≡◌, ◌++◌, OnOk, string_bytes};
 ghost use Rattle.cops_types.specs.Histories.{op_at};
 ghost use Rattle.cops_report.specs.Puts.{HasAllPuts};
 ghost use Rattle.cops_audit.specs.Faults.{IsFault};
-ghost use Rattle.cops_explain.specs.Paragraphs.{AddsParagraph, bearers_text, doubled_text, fault_head, more_others, no_source_text, not_above_text, others_text};
-ghost use Rattle.cops_explain.specs.Paragraphs.{known_text, place_text, returned_text, right_text, stale_end, stale_head, stale_return, stale_text, title};
+ghost use Rattle.cops_explain.specs.Paragraphs.{AddsParagraph, bearers_text, doubled_text, fault_head, known_text, more_others, no_source_text, not_above_text, others_text, place_text, returned_text, right_text, stale_end, stale_head, stale_return, stale_text, title};
 
 use crate::causes;
 use crate::limits::MOST_OTHERS;

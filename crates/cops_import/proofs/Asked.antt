@@ -7,13 +7,13 @@ use Rattle.cops_types.specs.declared.op.Op.{Op}
 use Rattle.cops_types.specs.declared.op.Op.TheVariants as op
 use Rattle.cops_import.specs.declared.fault.JsonLineFault.{JsonLineFault}
 use Rattle.cops_import.specs.declared.fault.JsonLineFault.TheVariants.{NoJson, NoClient, NoOperation, BothOperations, BadKey, BadValue, BadVersion, TooManyClients, TooManyOperations}
-use Rattle.cops_fields.specs.declared.unread.Unread.{Unread}
-use Rattle.cops_fields.specs.declared.unread.Unread.TheVariants.{Memory, Form}
+use Rattle.cops_json.specs.declared.unread.Unread.{Unread}
+use Rattle.cops_json.specs.declared.unread.Unread.TheVariants.{Memory, Form}
 use Rattle.cops_import.specs.declared.line.Untold.{Untold}
 use Rattle.cops_import.specs.declared.line.Untold.TheVariants.{Fault, Memory as OutOfMemory}
 use Rattle.cops_import.specs.declared.line.Kind.{Kind}
 use Rattle.cops_import.specs.declared.line.Kind.TheVariants.{Put, Get}
-use Rattle.cops_fields.specs.Json.{number_json}
+use Rattle.cops_json.specs.Json.{number_json}
 use Rattle.cops_import.specs.Line.{AsksKey, HasName, IsAsked, IsJson, IsWrong, IsWrongIn, ReportsOp}
 use Rattle.cops_import.specs.Asked.{IsKeyJson, IsWrongOf, ReportsKind}
 

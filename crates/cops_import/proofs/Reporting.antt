@@ -13,7 +13,7 @@ use Rattle.cops_types.specs.Texts.{version_text}
 use Rattle.cops_types.specs.Version.{IsVersion, clock_of, node_of}
 use Rattle.cops_types.specs.declared.op.Op.{Op}
 use Rattle.cops_types.specs.declared.op.Op.TheVariants as op
-use Rattle.cops_fields.specs.Json.{text_json}
+use Rattle.cops_json.specs.Json.{text_json}
 use Rattle.cops_import.specs.Line.{AsksKey, FoundNothing, IsAsked, IsFaulty, IsJson, IsNameJson, IsVersionJson, IsWrong, IsWrongIn, LacksValue, LacksVersion, LineReports, Reports, ReportsName, ReportsOp, ReportsValue, ReportsVersion, TextReports}
 use Rattle.cops_import.specs.Lines.{ReportAfter, with_reported}
 use Rattle.cops_import.specs.declared.fault.JsonLineFault.{JsonLineFault}
@@ -21,7 +21,7 @@ use Rattle.cops_import.specs.declared.fault.JsonLineFault.TheVariants.{NoJson, N
 use Rattle.cops_import.specs.declared.line.Kind.{Kind}
 use Rattle.cops_import.specs.declared.line.Kind.TheVariants.{Put, Get}
 use Rattle.cops_import.specs.declared.line.LineOp.{LineOp}
-use Rattle.cops_fields.proofs.Versions.{clock_fits, no_dot}
+use Rattle.cops_json.proofs.Versions.{clock_fits, no_dot}
 
 -- ---- at most one name and one version
 

@@ -8,7 +8,7 @@ use Rattle.cops_import.specs.declared.fault.JsonLineFault.{JsonLineFault}
 use Rattle.cops_import.specs.declared.fault.JsonLineFault.TheVariants.{BadKey, BadValue, BadVersion}
 use Rattle.cops_import.specs.declared.line.Kind.{Kind}
 use Rattle.cops_import.specs.declared.line.Kind.TheVariants.{Put, Get}
-use Rattle.cops_fields.specs.Json.{text_json}
+use Rattle.cops_json.specs.Json.{text_json}
 use Rattle.cops_import.specs.Line.{FoundNothing, LacksValue, LacksVersion, ReportsValue, ReportsVersion}
 
 abbrev pub IsKeyJson : Data → List ℕ → Type 0

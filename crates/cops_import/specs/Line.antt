@@ -4,7 +4,7 @@ use Rattle.std.specs.List.{AllPass}
 use Rattle.serde_json.specs.Data.{Data, null, array, item, no_items}
 use Rattle.serde_json.specs.Read.{read}
 use Rattle.serde_json.specs.Find.{get}
-use Rattle.cops_fields.specs.Json.{number_json, text_json}
+use Rattle.cops_json.specs.Json.{number_json, text_json}
 use Rattle.cops_types.specs.KeyValue.{IsKey}
 use Rattle.cops_types.specs.Format.{Fits}
 use Rattle.cops_types.specs.declared.format.Format.TheVariants.{One}

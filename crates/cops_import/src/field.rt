@@ -1,12 +1,12 @@
 //! The members of a line: names, values and versions.
 ghost use Rattle.std.specs.Prelude.{◌≡◌, ◌≢◌, ℕ, List, Err, IfOk, OnErr};
 ghost use Rattle.serde_json.specs.View.{view};
-ghost use Rattle.cops_fields.specs.Json.{number_json};
+ghost use Rattle.cops_json.specs.Json.{number_json};
 ghost use Rattle.cops_types.specs.Version.{IsVersion, clock_of, node_of};
 ghost use Rattle.cops_import.specs.Line.{HasNoValue, HasNoVersion, ReportsName, ReportsValue, ReportsVersion, pair_json};
 
 use crate::name::Name;
-use cops_fields::{Unread, value, version};
+use cops_json::{Unread, value, version};
 use cops_types::{Format, Value, Version};
 use serde_json::Value as Json;
 use std::alloc::Global;

@@ -9,7 +9,7 @@ ghost use Rattle.cops_import.specs.Asked.{IsWrongOf, ReportsKind};
 use crate::fault::JsonLineFault;
 use crate::field::{name_of, value_of, version_of};
 use crate::name::Name;
-use cops_fields::{Unread, key};
+use cops_json::{Unread, key};
 use cops_types::Op;
 use serde_json::Value as Json;
 use std::alloc::Global;

@@ -10,8 +10,7 @@ use Rattle.cops_types.specs.declared.refusal.Refusal.TheVariants.{NotGreeted, Ba
 use Rattle.cops_types.specs.Format.{number_of}
 use Rattle.cops_types.specs.Refusal.{code_of}
 use Rattle.cops_wire.specs.declared.message.Message.{Message}
-use Rattle.cops_wire.specs.declared.message.Message.TheVariants.{Hello, HelloOk, Put, Get, PutDone, Got, Missed, Refused}
-use Rattle.cops_wire.specs.declared.message.Message.TheVariants.{DepCheck, DepYes, DepWait, Status, StatusIs, Bye, ByeOk, Del, Deleted, Gone}
+use Rattle.cops_wire.specs.declared.message.Message.TheVariants.{Hello, HelloOk, Put, Get, PutDone, Got, Missed, Refused, DepCheck, DepYes, DepWait, Status, StatusIs, Bye, ByeOk, Del, Deleted, Gone}
 use Rattle.cops_wire.specs.Grammar.{grammar}
 use Rattle.cops_wire.specs.Legal.{IsMessage}
 use Rattle.cops_wire.specs.Message.{parts}

@@ -4,8 +4,7 @@ ghost use Rattle.std.specs.Io.KnownBytes.{Appends};
 ghost use Rattle.cops_types.specs.declared.format.Format.{Format as AFormat};
 ghost use Rattle.cops_net.specs.declared.reply.Call.{Call as ACall};
 ghost use Rattle.cops_net.specs.Answers.{IsWelcome, IsReplyIn, IsStanding};
-ghost use Rattle.cops_net.specs.Protocol.{seq_of, is_handed, Hands, reported, welcome, outcome};
-ghost use Rattle.cops_net.specs.Protocol.{IsLegalIn, standing, capped, welcomes};
+ghost use Rattle.cops_net.specs.Protocol.{Hands, IsLegalIn, capped, is_handed, outcome, reported, seq_of, standing, welcome, welcomes};
 ghost use Rattle.cops_net.specs.Turns.{is_welcome, IsTurn};
 
 use crate::own::{is_handed, own_reply, refused};

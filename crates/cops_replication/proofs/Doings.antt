@@ -10,7 +10,7 @@ use Rattle.cops_node.specs.declared.outcome.Outcome.{Outcome}
 use Rattle.cops_node.specs.declared.outcome.Outcome.TheVariants.{Marked, Settled, Refused}
 use Rattle.cops_types.specs.declared.refusal.Refusal.{Refusal}
 use Rattle.cops_types.specs.declared.refusal.Refusal.TheVariants.{NotHeld, UnknownDc}
-use Rattle.cops_book.specs.Book.{entry}
+use Rattle.cops_node.specs.Book.{entry}
 use Rattle.cops_cluster.specs.Cluster.{IsNode}
 use Rattle.cops_cluster.specs.Shares.{Adds, AddsAtMostOne, AddsEntry, is_of_node, made}
 use Rattle.cops_cluster.specs.declared.cluster.Cluster.{Cluster}

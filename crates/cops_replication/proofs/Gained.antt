@@ -3,7 +3,7 @@ use Rattle.std.proofs.Common.{◌≡◌, ℕ, [], ◌∷◌, ◌++◌, append_as
 use Rattle.std.proofs.lemmas.List.{append-nil}
 use Rattle.cops_node.specs.declared.event.NodeEvent.{NodeEvent}
 use Rattle.cops_node.specs.declared.outcome.Outcome.{Outcome}
-use Rattle.cops_book.specs.Book.{entry}
+use Rattle.cops_node.specs.Book.{entry}
 use Rattle.cops_cluster.specs.Shares.{AddsAtMostOne, AddsEntry, made}
 use Rattle.cops_cluster.specs.declared.share.Share.{Share}
 use Rattle.cops_replication.specs.Shares.{Gains}

@@ -10,7 +10,7 @@ use Rattle.std.proofs.lemmas.List.Folds.{list_any-append}
 use Rattle.std.proofs.lemmas.List.FromFn.{length-range_with_len}
 use Rattle.cops_cluster.specs.Close.{AreAll, holders, is_seat}
 use Rattle.cops_cluster.specs.declared.share.Holder.{Holder}
-use Rattle.cops_cluster.specs.declared.share.Holder.TheVariants.{Client as HeldByClient, Receiver as HeldByReceiver}
+use Rattle.cops_cluster.specs.declared.share.Holder.TheVariants.{Client as OfClient, Receiver as OfReceiver}
 use Rattle.cops_cluster.specs.declared.share.Share.{Share}
 use Rattle.cops_replication.specs.Wiring.{numbers}
 use Rattle.cops_replication.specs.declared.receiver.Receiver.{Receiver}
@@ -32,25 +32,25 @@ pub map_twice : {X : Type 0} (f : X → ℕ) (g : ℕ → Holder) (xs : List X) 
 map_twice f g [] = refl
 map_twice f g (x ∷ xs) = ap (λ (l : List Holder). g (f x) ∷ l) (map_twice f g xs)
 
-client_seat : (clients seat : ℕ) → seat < clients → is_seat clients seat (HeldByClient seat) ≡ true
+client_seat : (clients seat : ℕ) → seat < clients → is_seat clients seat (OfClient seat) ≡ true
 client_seat clients seat less = grind (arith, common_steps, less)
 
-receiver_seat : (clients seat dc : ℕ) → clients + dc ≡ seat → is_seat clients seat (HeldByReceiver dc) ≡ true
+receiver_seat : (clients seat dc : ℕ) → clients + dc ≡ seat → is_seat clients seat (OfReceiver dc) ≡ true
 receiver_seat clients seat dc is = grind (arith, common_steps, is)
 
 -- the share of each client and of each receiver is there
-pub all_seated : (clients dcs : ℕ) (shares : List Share) → holders shares ≡ map HeldByClient (numbers clients) ++ map HeldByReceiver (numbers dcs) → AreAll clients dcs shares
+pub all_seated : (clients dcs : ℕ) (shares : List Share) → holders shares ≡ map OfClient (numbers clients) ++ map OfReceiver (numbers dcs) → AreAll clients dcs shares
 all_seated clients dcs shares all =
-    let of_clients : List Holder = map HeldByClient (numbers clients) in
-    let of_receivers : List Holder = map HeldByReceiver (numbers dcs) in
+    let of_clients : List Holder = map OfClient (numbers clients) in
+    let of_receivers : List Holder = map OfReceiver (numbers dcs) in
     let count : length shares ≡ clients + dcs =
     omega (
       arith,
       length-map shares (λ (s : Share). s.holder),
       ap (λ (l : List Holder). length l) all,
       length-append of_clients of_receivers,
-      length-map (numbers clients) HeldByClient,
-      length-map (numbers dcs) HeldByReceiver,
+      length-map (numbers clients) OfClient,
+      length-map (numbers dcs) OfReceiver,
       length-range_with_len 0 clients,
       length-range_with_len 0 dcs,
     ) in (
@@ -59,9 +59,9 @@ all_seated clients dcs shares all =
           let p : Holder → Bool = is_seat clients seat in
           let either : list_any p of_clients || list_any p of_receivers ≡ true =
           elim (cases_lt seat clients) [
-            | inl low ↦ ap (λ (b : Bool). b || list_any p of_receivers) (any_in p HeldByClient clients 0 seat (omega arith) (omega (arith, low)) (client_seat clients seat low))
+            | inl low ↦ ap (λ (b : Bool). b || list_any p of_receivers) (any_in p OfClient clients 0 seat (omega arith) (omega (arith, low)) (client_seat clients seat low))
             | inr high ↦
-                ap (λ (b : Bool). list_any p of_clients || b) (any_in p HeldByReceiver dcs 0 (seat - clients) (omega arith) (omega (arith, less, high)) (receiver_seat clients seat (seat - clients) (omega (arith, high))))
+                ap (λ (b : Bool). list_any p of_clients || b) (any_in p OfReceiver dcs 0 (seat - clients) (omega arith) (omega (arith, less, high)) (receiver_seat clients seat (seat - clients) (omega (arith, high))))
                 ∙ or-true (list_any p of_clients)
           ] in
           any_map p shares ∙ ap (λ (l : List Holder). list_any p l) all ∙ list_any-append p of_clients of_receivers ∙ either,
@@ -89,16 +89,16 @@ held_from f g (x ∷ xs) a (suc n) len each =
 
 -- the receivers hold the shares of their own places
 pub placed_from : (rs : List Receiver) (ss : List Share) (a n : ℕ) → map (λ (r : Receiver). r.dc) rs ≡ range_with_len a n → map (λ (r : Receiver). r.share) rs ≡ ss
-    → ((k : ℕ) (d : Share) → k < n → (get_or ss k d).holder ≡ HeldByReceiver (a + k)) → All (λ (r : Receiver). r.share.holder ≡ HeldByReceiver r.dc) rs
+    → ((k : ℕ) (d : Share) → k < n → (get_or ss k d).holder ≡ OfReceiver (a + k)) → All (λ (r : Receiver). r.share.holder ≡ OfReceiver r.dc) rs
 placed_from [] ss a n dcs shares each = λ k d less. absurd (omega (arith, less))
 placed_from (r ∷ rs) [] a n dcs shares each = absurd (cc)
 placed_from (r ∷ rs) (s ∷ ss) a zero dcs shares each = absurd (cc)
 placed_from (r ∷ rs) (s ∷ ss) a (suc n) dcs shares each =
-    let first : s.holder ≡ HeldByReceiver (a + 0) = each 0 s (omega arith) in
+    let first : s.holder ≡ OfReceiver (a + 0) = each 0 s (omega arith) in
     let same : r.share ≡ s = cc in
     let places : map (λ (r : Receiver). r.dc) rs ≡ range_with_len (a + 1) n = cc in
     let rest : map (λ (r : Receiver). r.share) rs ≡ ss = cc in
     let place : r.dc ≡ a + 0 = (let here : r.dc ≡ a = cc in omega (arith, here)) in
-    let one : r.share.holder ≡ HeldByReceiver r.dc = ap (λ (x : Share). x.holder) same ∙ first ∙ ap HeldByReceiver (sym place) in
-    All-cons (λ (r : Receiver). r.share.holder ≡ HeldByReceiver r.dc) r rs one
-    (placed_from rs ss (a + 1) n places rest (λ k d less. each (suc k) d (omega (arith, less)) ∙ ap HeldByReceiver (omega arith)))
+    let one : r.share.holder ≡ OfReceiver r.dc = ap (λ (x : Share). x.holder) same ∙ first ∙ ap OfReceiver (sym place) in
+    All-cons (λ (r : Receiver). r.share.holder ≡ OfReceiver r.dc) r rs one
+    (placed_from rs ss (a + 1) n places rest (λ k d less. each (suc k) d (omega (arith, less)) ∙ ap OfReceiver (omega arith)))

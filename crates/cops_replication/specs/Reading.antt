@@ -3,8 +3,8 @@ use Rattle.std.specs.Prelude.{◌≡◌, ◌<◌, ◌==◌, Bool, true, ℕ, Lis
 use Rattle.std.specs.List.{list_any}
 use Rattle.cops_types.specs.declared.limits.TheConstants.{PLACES}
 use Rattle.cops_types.specs.declared.put_record.PutRecord.{PutRecord}
-use Rattle.cops_book.specs.Book.{puts_in}
-use Rattle.cops_book.specs.declared.entry.Entry.{Entry}
+use Rattle.cops_node.specs.Book.{puts_in}
+use Rattle.cops_node.specs.declared.entry.Entry.{Entry}
 use Rattle.cops_cluster.specs.Cluster.{IsNode}
 use Rattle.cops_cluster.specs.declared.cluster.Cluster.{Cluster}
 

@@ -1,6 +1,6 @@
 //! What a turn did, and why a sequence of turns failed.
 ghost use Rattle.std.specs.Prelude.{◌≡◌};
-ghost use Rattle.cops_replication.specs.declared.turn.TurnFault.TheVariants.{Memory as OutOfMemory, Held as HeldByGate};
+ghost use Rattle.cops_replication.specs.declared.turn.TurnFault.TheVariants.{Memory as OutOfMemory, Held as StoppedByGate};
 
 use cops_cluster::RECEIVER;
 use cops_types::{GateHeld, Memory};
@@ -66,7 +66,7 @@ impl From<Memory> for TurnFault {
 }
 
 impl From<GateHeld> for TurnFault {
-    ghost from_gives = { λ _ e. e ≡ HeldByGate };
+    ghost from_gives = { λ _ e. e ≡ StoppedByGate };
 
     fn from(_e: GateHeld) -> TurnFault {
         TurnFault::Held

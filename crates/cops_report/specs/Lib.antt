@@ -3,3 +3,4 @@ pub mod Marks
 pub mod Searches
 pub mod Reports
 pub mod Puts
+pub mod Reported

@@ -10,6 +10,7 @@ mod laws;
 mod lines;
 mod marks;
 mod puts;
+mod reporting;
 mod reports;
 mod search;
 
@@ -18,4 +19,5 @@ pub use judged::report_judged;
 pub use laws::{chain_is_evidence, one_chain, past_has_a_chain};
 pub use lines::version_at;
 pub use puts::{from_version, put_table};
+pub use reporting::report_of;
 pub use reports::report;

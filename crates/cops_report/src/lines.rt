@@ -5,8 +5,7 @@ ghost use Rattle.cops_types.specs.Histories.{op_at};
 ghost use Rattle.cops_types.specs.declared.op.OpName.{OpName};
 ghost use Rattle.cops_audit.specs.declared.verdict.NotAbove.{NotAbove};
 ghost use Rattle.cops_audit.specs.declared.verdict.Stale.{Stale};
-ghost use Rattle.cops_report.specs.Reports.{HasSomeVersion, accepted_line, refused_line, named_line, not_above_line};
-ghost use Rattle.cops_report.specs.Reports.{stale_head, stale_line, chain_text, returned_text, version_at};
+ghost use Rattle.cops_report.specs.Reports.{HasSomeVersion, accepted_line, chain_text, named_line, not_above_line, refused_line, returned_text, stale_head, stale_line, version_at};
 
 use cops_audit::{NotAbove, Stale};
 use cops_types::{History, OpName, OpRef, Version};

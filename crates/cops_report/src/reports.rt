@@ -7,8 +7,7 @@ ghost use Rattle.cops_audit.specs.Verdicts.{IsVerdict};
 ghost use Rattle.cops_audit.specs.declared.verdict.NotAbove.{NotAbove};
 ghost use Rattle.cops_audit.specs.declared.verdict.Stale.{Stale};
 ghost use Rattle.cops_report.specs.Puts.{HasAllPuts};
-ghost use Rattle.cops_report.specs.Reports.{AddsStaleLine, AddsStaleLines, AreStaleLines, HasSomeVersion, IsRefusal, IsReport};
-ghost use Rattle.cops_report.specs.Reports.{accepted_line, named_line, not_above_line, refusal};
+ghost use Rattle.cops_report.specs.Reports.{AddsStaleLine, AddsStaleLines, AreStaleLines, HasSomeVersion, IsRefusal, IsReport, accepted_line, named_line, not_above_line, refusal};
 
 use crate::chains::chain_by;
 use crate::lines;

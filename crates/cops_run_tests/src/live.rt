@@ -1,6 +1,6 @@
 use crate::building::{DELETING, DONE, HEAD, HEAD_OF_TWO, TWO, fault_of, operations_of, scenario};
+use cops_audit_commands::{Answer, StreamFault, audit_stream};
 use cops_clients::*;
-use cops_stream::{Answer, StreamFault, audit_stream};
 use cops_testing::waits_for;
 use cops_types::{Counted, FailingWriter, Gate, GateHeld, OpenGate, Point};
 use std::alloc::{AllocGlobal, Global};

@@ -1,5 +1,5 @@
 use crate::building::{HEAD, TWO};
-use cops_run_stream::{Streamed, run_stream};
+use cops_run_command::{Streamed, run_stream};
 use cops_testing::HoldsSteps;
 use cops_types::Counted;
 use std::test::Fail;

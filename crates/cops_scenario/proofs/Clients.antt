@@ -6,7 +6,7 @@ use Rattle.std.proofs.lemmas.List.{map_push}
 use Rattle.serde_json.specs.Data.{Data}
 use Rattle.serde_json.specs.View.{view}
 use Rattle.serde_json.specs.declared.value.Value.{Value}
-use Rattle.cops_core.specs.declared.script.ScriptedClient.{ScriptedClient}
+use Rattle.cops_scenario.specs.declared.script.ScriptedClient.{ScriptedClient}
 use Rattle.cops_scenario.specs.File.{ReportsClient, ReportClients}
 
 report_one_more : (ds : List Data) (cs : List ScriptedClient) (d : Data) (c : ScriptedClient) → ReportClients ds cs → ReportsClient d c → ReportClients (ds ++ d ∷ []) (cs ++ c ∷ [])

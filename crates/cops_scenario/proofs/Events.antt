@@ -9,9 +9,9 @@ use Rattle.cops_types.specs.Texts.{version_text}
 use Rattle.cops_types.specs.Version.{IsVersion}
 use Rattle.cops_core.specs.declared.event.Event.{Event}
 use Rattle.cops_core.specs.declared.event.Event.TheVariants.{Put, Del, Get, Deliver, Ask, Mark, Settle}
-use Rattle.cops_core.specs.declared.script.ScriptOp.{ScriptOp}
-use Rattle.cops_core.specs.declared.script.ScriptOp.TheVariants as script
-use Rattle.cops_fields.specs.Json.{number_json, text_json}
+use Rattle.cops_scenario.specs.declared.script.ScriptOp.{ScriptOp}
+use Rattle.cops_scenario.specs.declared.script.ScriptOp.TheVariants as script
+use Rattle.cops_json.specs.Json.{number_json, text_json}
 use Rattle.cops_scenario.specs.File.{event_json, kind_of, list_json, one_json, op_json, parts_of}
 use Rattle.cops_scenario.specs.Limits.{IsLegalEvent, IsLegalOp}
 use Rattle.cops_scenario.proofs.Forms.{same_list, same_one}

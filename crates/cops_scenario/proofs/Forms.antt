@@ -6,8 +6,8 @@ use Rattle.serde_json.specs.Data.{Data}
 use Rattle.serde_json.specs.View.{view, items_of}
 use Rattle.serde_json.specs.Find.{as_array}
 use Rattle.serde_json.specs.declared.value.Value.{Value}
-use Rattle.cops_core.specs.declared.script.ScriptedClient.{ScriptedClient}
-use Rattle.cops_fields.specs.Json.{text_json}
+use Rattle.cops_scenario.specs.declared.script.ScriptedClient.{ScriptedClient}
+use Rattle.cops_json.specs.Json.{text_json}
 use Rattle.cops_scenario.specs.File.{list_json, one_json, ReportsClient, ReportClients}
 
 items_alike : (xs ys : List Data) → items_of xs ≡ items_of ys → xs ≡ ys

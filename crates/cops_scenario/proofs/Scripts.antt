@@ -7,8 +7,8 @@ use Rattle.serde_json.specs.View.{view, items_view}
 use Rattle.serde_json.specs.Find.{as_array, get}
 use Rattle.serde_json.specs.declared.value.Value.{Value}
 use Rattle.cops_core.specs.declared.event.Event.{Event}
-use Rattle.cops_core.specs.declared.script.ScriptOp.{ScriptOp}
-use Rattle.cops_core.specs.declared.script.ScriptedClient.{ScriptedClient}
+use Rattle.cops_scenario.specs.declared.script.ScriptOp.{ScriptOp}
+use Rattle.cops_scenario.specs.declared.script.ScriptedClient.{ScriptedClient}
 use Rattle.cops_scenario.specs.File.{AreUnscripted, IsListOrMissing, ReportClients, list_json, op_json}
 use Rattle.cops_scenario.specs.Limits.{AreEventsOf}
 use Rattle.cops_scenario.proofs.Forms.{same_items}

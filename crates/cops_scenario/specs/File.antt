@@ -6,14 +6,14 @@ use Rattle.serde_json.specs.View.{items_of}
 use Rattle.serde_json.specs.Find.{get, as_object}
 use Rattle.cops_types.specs.Format.{number_of}
 use Rattle.cops_types.specs.Texts.{version_text}
-use Rattle.cops_fields.specs.Json.{number_json, text_json}
+use Rattle.cops_json.specs.Json.{number_json, text_json}
 use Rattle.cops_core.specs.declared.event.Event.{Event}
 use Rattle.cops_core.specs.declared.event.Event.TheVariants.{Put, Del, Get, Deliver, Ask, Mark, Settle}
 use Rattle.cops_scenario.specs.declared.fault.Field.{Field}
 use Rattle.cops_scenario.specs.declared.fault.Field.TheVariants.{Root, Format as FormatField, DataCentres, Splits, Link, Turns, Retries, Repeat, Hold, Clients, Events}
-use Rattle.cops_core.specs.declared.script.ScriptOp.{ScriptOp}
-use Rattle.cops_core.specs.declared.script.ScriptOp.TheVariants as script
-use Rattle.cops_core.specs.declared.script.ScriptedClient.{ScriptedClient}
+use Rattle.cops_scenario.specs.declared.script.ScriptOp.{ScriptOp}
+use Rattle.cops_scenario.specs.declared.script.ScriptOp.TheVariants as script
+use Rattle.cops_scenario.specs.declared.script.ScriptedClient.{ScriptedClient}
 use Rattle.cops_scenario.specs.declared.scenario.TheConstants.{MAX_CLIENTS}
 use Rattle.cops_scenario.specs.Scenario.{AScenario}
 use Rattle.cops_scenario.specs.Fields.{format_at, name_of, number_at, range_of}
@@ -205,3 +205,7 @@ IsNoText bytes = IsUtf8 bytes → read bytes ≡ None
 -- the bytes are a JSON text in which the field is wrong, and no field before it
 abbrev pub IsWrongText : List ℕ → Field → Type 0
 IsWrongText bytes field = (root : Data) × IsUtf8 bytes × (read bytes ≡ Some root) × IsWrong root field × AreRightBefore root field
+
+-- the bytes are no scenario: they are not JSON, or a field is wrong
+abbrev pub IsNoScenario : List ℕ → Type 0
+IsNoScenario bytes = IsNoText bytes ⊎ ((field : Field) × IsWrongText bytes field)

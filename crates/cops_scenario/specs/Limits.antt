@@ -8,9 +8,9 @@ use Rattle.cops_place.specs.declared.place.TheConstants.{MAX_SPLITS}
 use Rattle.cops_place.specs.Place.{IsPlace, AreAscending}
 use Rattle.cops_core.specs.declared.event.Event.{Event}
 use Rattle.cops_core.specs.declared.event.Event.TheVariants as event
-use Rattle.cops_core.specs.declared.script.ScriptOp.{ScriptOp}
-use Rattle.cops_core.specs.declared.script.ScriptOp.TheVariants as script
-use Rattle.cops_core.specs.declared.script.ScriptedClient.{ScriptedClient}
+use Rattle.cops_scenario.specs.declared.script.ScriptOp.{ScriptOp}
+use Rattle.cops_scenario.specs.declared.script.ScriptOp.TheVariants as script
+use Rattle.cops_scenario.specs.declared.script.ScriptedClient.{ScriptedClient}
 use Rattle.cops_scenario.specs.declared.scenario.TheConstants.{MAX_CLIENT, MAX_CLIENTS, MAX_DC, MAX_DEP, MAX_EVENTS, MAX_HOLD, MAX_LINK, MAX_REPEAT, MAX_RETRIES, MAX_SCRIPT, MAX_TURNS}
 use Rattle.cops_scenario.specs.Scenario.{AScenario}
 

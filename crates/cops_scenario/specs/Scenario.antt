@@ -3,7 +3,7 @@ use Rattle.std.specs.Prelude.{ℕ, List, map, Option}
 use Rattle.cops_types.specs.declared.format.Format.{Format}
 use Rattle.cops_place.specs.Place.{APlace}
 use Rattle.cops_core.specs.declared.event.Event.{Event}
-use Rattle.cops_core.specs.declared.script.ScriptedClient.{ScriptedClient}
+use Rattle.cops_scenario.specs.declared.script.ScriptedClient.{ScriptedClient}
 use Rattle.cops_core.specs.World.{Setting}
 
 -- the format of the cluster and of its trace, the place, the capacity of a link, the number of turns that a loop may make, how often an operation is

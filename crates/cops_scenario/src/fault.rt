@@ -3,7 +3,7 @@ use crate::scenario::{
     DEFAULT_FORMAT, DEFAULT_HOLD, DEFAULT_LINK, DEFAULT_REPEAT, DEFAULT_RETRIES, DEFAULT_TURNS,
     MAX_FORMAT, MAX_HOLD, MAX_LINK, MAX_REPEAT, MAX_RETRIES, MAX_TURNS,
 };
-use cops_fields::Unread;
+use cops_json::Unread;
 use cops_types::MAX_DCS;
 use std::fmt;
 use thiserror::Error;

@@ -4,11 +4,11 @@ ghost use Rattle.serde_json.specs.Data.{Data};
 ghost use Rattle.serde_json.specs.Find.{as_number, as_u64};
 ghost use Rattle.serde_json.specs.View.{view};
 ghost use Rattle.cops_scenario.specs.declared.scenario.TheConstants.{MAX_CLIENT, MAX_DC};
-ghost use Rattle.cops_fields.specs.Json.{number_json};
+ghost use Rattle.cops_json.specs.Json.{number_json};
 ghost use Rattle.cops_scenario.specs.File.{list_json, one_json, IsNoNumber};
 
 use crate::scenario::{MAX_CLIENT, MAX_DC};
-use cops_fields::Unread;
+use cops_json::Unread;
 use serde_json::Value as Json;
 
 /// Reads a whole number within a range.

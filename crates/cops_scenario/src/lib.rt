@@ -6,12 +6,16 @@
 mod event;
 mod fault;
 mod field;
+mod input;
 mod laws;
 mod line;
 mod reading;
 mod scenario;
+mod script;
 
 pub use fault::{Field, ScenarioFault};
+pub use input::read_scenario;
 pub use laws::text_is_right;
 pub use line::outcome_line;
 pub use scenario::Scenario;
+pub use script::{ScriptOp, ScriptedClient};

@@ -3,7 +3,7 @@ ghost use Rattle.std.specs.Prelude.{◌≡◌, ◌≢◌, ◌≤◌, ◌<◌, �
 ghost use Rattle.std.specs.Bool.{OnFalse, OnTrue};
 ghost use Rattle.serde_json.specs.Data.{Data};
 ghost use Rattle.serde_json.specs.View.{view};
-ghost use Rattle.cops_fields.specs.Json.{text_json};
+ghost use Rattle.cops_json.specs.Json.{text_json};
 ghost use Rattle.cops_scenario.specs.File.{list_json, AreRightBefore, AreUnscripted, IsListOrMissing, ReportsClient, ReportClients, ReportsEvents, ReportsNumberAt, ReportsScenario, IsRightNumber, IsWrongNumber, IsWrong};
 ghost use Rattle.cops_scenario.specs.declared.fault.Field.{Field as AField};
 ghost use Rattle.serde_json.specs.Find.{get};
@@ -13,14 +13,15 @@ ghost use Rattle.cops_scenario.specs.Fields.{format_at, name_of, number_at, rang
 ghost use Rattle.cops_types.specs.Format.{number_of as number_in};
 ghost use Rattle.cops_scenario.specs.Limits.{AreLegalEvents, AreSplits, IsClientOf, IsLegalClient, IsLegalScenario};
 ghost use Rattle.cops_core.specs.declared.event.Event.{Event as AnEvent};
-ghost use Rattle.cops_core.specs.declared.script.ScriptedClient.{ScriptedClient as AClient};
+ghost use Rattle.cops_scenario.specs.declared.script.ScriptedClient.{ScriptedClient as AClient};
 
 use crate::event::{events, script};
 use crate::fault::{Field, ScenarioFault};
 use crate::field::{dc, list, number};
 use crate::scenario::{MAX_CLIENTS, MAX_EVENTS, MAX_SCRIPT, Scenario};
-use cops_core::{Event, ScriptedClient};
-use cops_fields::{Unread, key};
+use crate::script::ScriptedClient;
+use cops_core::Event;
+use cops_json::{Unread, key};
 use cops_place::{MAX_SPLITS, Place, PlaceFault};
 use cops_types::{Format, MAX_DCS};
 use serde_json::Value as Json;

@@ -1,5 +1,6 @@
 //! Scenarios.
-use cops_core::{Event, ScriptedClient, Setting};
+use crate::script::ScriptedClient;
+use cops_core::{Event, Setting};
 use cops_place::Place;
 use cops_types::{Format, Memory};
 use std::alloc::{AllocError, Global};

@@ -6,7 +6,7 @@ use Rattle.cops_cluster.specs.Close.{AreAll, holders}
 use Rattle.cops_cluster.specs.Opening.{AreClientsAt, AreReceivers as AreSharesOfReceivers}
 use Rattle.cops_cluster.specs.declared.client.Client.{Client}
 use Rattle.cops_cluster.specs.declared.share.Holder.{Holder}
-use Rattle.cops_cluster.specs.declared.share.Holder.TheVariants.{Client as HeldByClient, Receiver as HeldByReceiver}
+use Rattle.cops_cluster.specs.declared.share.Holder.TheVariants.{Client as OfClient, Receiver as OfReceiver}
 use Rattle.cops_cluster.specs.declared.share.Share.{Share}
 use Rattle.cops_replication.specs.Wiring.{AreReceivers, numbers}
 use Rattle.cops_replication.specs.declared.receiver.Receiver.{Receiver}
@@ -21,9 +21,9 @@ through f (x ∷ xs) = ap (λ (hs : List Holder). (f x).holder ∷ hs) (through 
 pub opened : (homes : List ℕ) (count dcs : ℕ) (clients : List Client) (shares : List Share) (receivers : List Receiver) → AreClientsAt homes count clients → AreSharesOfReceivers dcs shares
     → AreReceivers dcs shares receivers → AreSeated count dcs clients receivers
 opened homes count dcs clients shares receivers of_clients of_shares wired = (
-  held_from (λ (c : Client). c.share.holder) HeldByClient clients 0 count of_clients.0 (λ k d less. of_clients.4 k d less ∙ ap HeldByClient (omega arith)),
+  held_from (λ (c : Client). c.share.holder) OfClient clients 0 count of_clients.0 (λ k d less. of_clients.4 k d less ∙ ap OfClient (omega arith)),
   through (λ (r : Receiver). r.share) receivers ∙ ap holders wired.1
-      ∙ held_from (λ (s : Share). s.holder) HeldByReceiver shares 0 dcs of_shares.0 (λ k d less. of_shares.1 k d less ∙ ap HeldByReceiver (omega arith)),
+      ∙ held_from (λ (s : Share). s.holder) OfReceiver shares 0 dcs of_shares.0 (λ k d less. of_shares.1 k d less ∙ ap OfReceiver (omega arith)),
 )
 
 -- the shares of the clients and receivers are all shares
@@ -32,10 +32,10 @@ pub all_of : (count dcs : ℕ) (clients : List Client) (receivers : List Receive
 all_of count dcs clients receivers shares (of_clients, of_receivers) are =
     let own : List Share = map (λ (c : Client). c.share) clients in
     let theirs : List Share = map (λ (r : Receiver). r.share) receivers in
-    let each : holders own ≡ map HeldByClient (numbers count) = sym (through (λ (c : Client). c.share) clients) ∙ of_clients in
-    let beside : holders theirs ≡ map HeldByReceiver (numbers dcs) = sym (through (λ (r : Receiver). r.share) receivers) ∙ of_receivers in
+    let each : holders own ≡ map OfClient (numbers count) = sym (through (λ (c : Client). c.share) clients) ∙ of_clients in
+    let beside : holders theirs ≡ map OfReceiver (numbers dcs) = sym (through (λ (r : Receiver). r.share) receivers) ∙ of_receivers in
     all_seated count dcs shares
-    (ap holders are ∙ map-append (λ (s : Share). s.holder) own theirs ∙ ap (λ (hs : List Holder). hs ++ holders theirs) each ∙ ap (λ (hs : List Holder). map HeldByClient (numbers count) ++ hs) beside)
+    (ap holders are ∙ map-append (λ (s : Share). s.holder) own theirs ∙ ap (λ (hs : List Holder). hs ++ holders theirs) each ∙ ap (λ (hs : List Holder). map OfClient (numbers count) ++ hs) beside)
 
 -- putting back a client whose share still has its holder
 pub kept : (count dcs : ℕ) (clients : List Client) (receivers : List Receiver) (place : ℕ) (before after : Client) → AreSeated count dcs clients receivers

@@ -9,13 +9,12 @@ use Rattle.cops_core.specs.declared.event.Event.{Event}
 use Rattle.cops_core.specs.World.{Setting}
 use Rattle.cops_types.specs.Verdicts.{HasAcceptedVerdict}
 use Rattle.cops_audit.specs.declared.verdict.Verdict.{Verdict}
-use Rattle.cops_command.specs.Scenario.{ReportsNone}
+use Rattle.cops_scenario.specs.File.{IsNoScenario, IsTextOf}
 use Rattle.cops_command.specs.Status.{number}
-use Rattle.cops_command.specs.Reported.{IsReportOf}
+use Rattle.cops_report.specs.Reported.{IsReportOf}
 use Rattle.cops_command.specs.declared.status.Status.TheVariants.{Accepted, Faulty}
 use Rattle.cops_scenario.specs.Scenario.{AScenario, setting_of}
-use Rattle.cops_scenario.specs.File.{IsTextOf}
-use Rattle.cops_book.specs.declared.entry.Entry.{Entry}
+use Rattle.cops_node.specs.declared.entry.Entry.{Entry}
 use Rattle.cops_tie.specs.Untied.{IsTied}
 use Rattle.cops_cluster.specs.Close.{made_in, reported}
 use Rattle.cops_cluster.specs.declared.client.Client.{Client}
@@ -64,4 +63,4 @@ pub record IsServed (sessions : ℕ) (s : AScenario) (text : List ℕ) : Type 0 
 abbrev pub EndsAs : List ℕ → ℕ → ℕ → Option (List ℕ) → Option (List ℕ) → Type 0
 EndsAs bytes sessions status old new =
     ((status ≡ number Accepted) × ((s : AScenario) × IsTextOf bytes s × ((text : List ℕ) × IsServed sessions s text × Appends old new text)))
-    ⊎ ((status ≡ number Faulty) × ReportsNone bytes)
+    ⊎ ((status ≡ number Faulty) × IsNoScenario bytes)

@@ -8,7 +8,7 @@ ghost use Rattle.cops_serve.specs.Serving.{HasNodesOf, IsTiedReport};
 use crate::fault::ServeFault;
 use crate::front_end::FrontEnd;
 use cops_cluster::{Client, CloseFault, Closed, Cluster, Share};
-use cops_command::report_of;
+use cops_report::report_of;
 use cops_core::Setting;
 use cops_replication::Receiver;
 use cops_scenario::Scenario;

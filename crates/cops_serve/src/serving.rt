@@ -13,9 +13,9 @@ ghost use Rattle.cops_serve.specs.Serving.{EndsAs, IsServed};
 
 use crate::fault::ServeFault;
 use crate::front_end::FrontEnd;
-use cops_command::{Status, failed, print, read_scenario};
+use cops_command::{Status, failed, print};
+use cops_scenario::{Scenario, read_scenario};
 use cops_net::{NetFault, listen_with_idle};
-use cops_scenario::Scenario;
 use cops_types::{Counted, Memory};
 use std::alloc::Global;
 use std::io::{Read, Write};

@@ -3,7 +3,7 @@ use Rattle.std.proofs.Common.{◌≡◌, ℕ, ◌+◌, ◌/◌, ◌%◌, ◌<◌
 use Rattle.std.proofs.lemmas.List.{append_assoc, append-nil, get_or-map, length-map}
 use Rattle.std.proofs.lemmas.List.Elements.{All-get_or}
 use Rattle.std.specs.List.Sorted.{IsNonDecreasingBy}
-use Rattle.cops_book.specs.declared.entry.Entry.{Entry}
+use Rattle.cops_node.specs.declared.entry.Entry.{Entry}
 use Rattle.cops_tie.specs.declared.order.Ticketed.{Ticketed}
 use Rattle.cops_tie.specs.Tie.{Placed, ticket, placed}
 use Rattle.cops_tie.specs.Ticketed.{HasItsTicket, shown}

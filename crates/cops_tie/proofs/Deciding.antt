@@ -7,7 +7,7 @@ use Rattle.cops_node.specs.declared.outcome.Outcome.{Outcome}
 use Rattle.cops_node.specs.declared.outcome.Outcome.TheVariants.{Refused}
 use Rattle.cops_core.specs.declared.event.Event.{Event}
 use Rattle.cops_core.specs.World.{Act, Setting, World, Happens, act_of, opening}
-use Rattle.cops_book.specs.declared.entry.Entry.{Entry}
+use Rattle.cops_node.specs.declared.entry.Entry.{Entry}
 use Rattle.cops_tie.specs.Tie.{Placed, event_of, Continues, Follows, IsTiedTo}
 use Rattle.cops_tie.specs.Untied.{IsTied, StopsAt, IsUntied}
 use Rattle.cops_tie.proofs.Ordering.{NeverFalls, Rises, one_order}

@@ -2,9 +2,9 @@
 use Rattle.std.specs.Prelude.{ℕ, ◌⊎◌, List}
 use Rattle.cops_types.specs.Histories.{Sessions}
 use Rattle.cops_core.specs.declared.event.Event.{Event}
-use Rattle.cops_core.specs.declared.script.ScriptedClient.{ScriptedClient}
+use Rattle.cops_scenario.specs.declared.script.ScriptedClient.{ScriptedClient}
 use Rattle.cops_core.specs.World.{Setting, World}
-use Rattle.cops_book.specs.declared.entry.Entry.{Entry}
+use Rattle.cops_node.specs.declared.entry.Entry.{Entry}
 use Rattle.cops_tie.specs.Untied.{IsTiedBefore, IsUntied}
 use Rattle.cops_tie.specs.declared.fault.CheckFault.{CheckFault}
 use Rattle.cops_tie.specs.declared.fault.CheckFault.TheVariants.{Memory, Untied}

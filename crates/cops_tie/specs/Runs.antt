@@ -6,8 +6,8 @@ use Rattle.cops_store.specs.Store.{has_pair}
 use Rattle.cops_node.specs.Node.{put_pair}
 use Rattle.cops_core.specs.declared.event.Event.{Event}
 use Rattle.cops_core.specs.World.{Setting, World, settled_in}
-use Rattle.cops_core.specs.declared.script.ScriptedClient.{ScriptedClient}
-use Rattle.cops_book.specs.declared.entry.Entry.{Entry}
+use Rattle.cops_scenario.specs.declared.script.ScriptedClient.{ScriptedClient}
+use Rattle.cops_node.specs.declared.entry.Entry.{Entry}
 use Rattle.cops_tie.specs.Tie.{IsTiedTo}
 use Rattle.cops_tie.specs.declared.outcome.ClientOutcome.{ClientOutcome}
 use Rattle.cops_tie.specs.Outcomes.{AreOutcomes}

@@ -8,7 +8,7 @@ use Rattle.cops_core.specs.declared.event.Event.{Event}
 use Rattle.cops_core.specs.declared.event.Event.TheVariants.{Put as PutBy, Del as DelBy, Get as GetBy, Deliver as DeliverTo, Ask as AskAt, Mark as MarkAt, Settle as SettleAt}
 use Rattle.cops_core.specs.World.{Setting, World, Happens, act_of, context_in, home, opening, primary, sent}
 use Rattle.cops_types.specs.NodeNumber.{place_of}
-use Rattle.cops_book.specs.declared.entry.Entry.{Entry}
+use Rattle.cops_node.specs.declared.entry.Entry.{Entry}
 
 -- an entry, in the book of the node at a place of a data centre
 pub record Placed : Type 0 where

@@ -7,8 +7,9 @@ ghost use Rattle.cops_core.specs.World.{act_of, happens};
 ghost use Rattle.cops_tie.specs.Outcomes.{AreOutcomes, IsPrefixOf, IsOutcome, IsSeenAs, IsStop, event_for};
 
 use crate::outcome::ClientOutcome;
-use cops_core::{Event, ScriptOp, ScriptedClient, World, every_interleaving_is_accepted};
+use cops_core::{Event, World, every_interleaving_is_accepted};
 use cops_node::Outcome;
+use cops_scenario::{ScriptOp, ScriptedClient};
 use cops_types::{History, Memory, OpName, OpRef, Refusal};
 use std::alloc::AllocError;
 

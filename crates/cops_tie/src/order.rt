@@ -4,7 +4,7 @@ ghost use Rattle.std.specs.List.Sorted.{IsPermutation};
 ghost use Rattle.cops_tie.specs.Tie.{placed, ticket};
 ghost use Rattle.cops_tie.specs.Ticketed.{HasItsTicket, shown};
 
-use cops_book::Entry;
+use cops_node::Entry;
 use std::alloc::{AllocError, Global};
 
 /// An entry of the book of the node at a place of a data centre, with its ticket, so that sorting need not look into

@@ -10,9 +10,8 @@ ghost use Rattle.cops_tie.specs.Ticketed.{StandsRight, WhereUntied, shown};
 
 use crate::fault::TieFault;
 use crate::order::{Ticketed, in_order};
-use cops_book::{Entry, is_same_put};
 use cops_core::{Event, Setting, World};
-use cops_node::{NodeEvent, Outcome};
+use cops_node::{Entry, NodeEvent, Outcome, is_same_put};
 use cops_trace::Trace;
 use cops_types::{Deps, History, Memory, OpName, PutRecord};
 use std::alloc::{AllocError, Global};

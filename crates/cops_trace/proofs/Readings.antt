@@ -15,7 +15,7 @@ use Rattle.cops_types.specs.declared.format.Format.TheVariants.{One, Two}
 use Rattle.cops_wire.specs.Grammar.{grammar}
 use Rattle.cops_wire.specs.Legal.{IsMessage}
 use Rattle.cops_wire.specs.declared.message.Message.{Message}
-use Rattle.cops_wire.specs.declared.message.Message.TheVariants.{TraceEnd}
+use Rattle.cops_wire.specs.declared.message.Message.TheVariants.{TraceEnd, TraceHead}
 use Rattle.cops_wire.specs.Answer.{IsBytes}
 use Rattle.cops_wire.proofs.Fields.{IsBytes-right}
 use Rattle.cops_wire.proofs.Codec.{one_message}
@@ -26,7 +26,6 @@ use Rattle.cops_trace.specs.declared.found.Item.TheVariants.{Head, Op as Entry, 
 use Rattle.cops_trace.specs.declared.found.Found.{Found}
 use Rattle.cops_trace.specs.declared.found.Found.TheVariants.{Gives, Waits, Fails}
 use Rattle.cops_wire.specs.Message.{parts, encoded}
-use Rattle.cops_wire.specs.declared.message.Message.TheVariants.{TraceHead}
 use Rattle.cops_wire.specs.Records.{record_message}
 use Rattle.cops_trace.specs.Text.{ARecord, ATrace, IsTrace, IsOp, turn, record_text, records_text, beginning, text, end_text}
 use Rattle.cops_trace.specs.Next.{Stands, format_next}

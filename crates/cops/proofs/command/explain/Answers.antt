@@ -1,4 +1,4 @@
-use Rattle.cops_stream.specs.declared.audit.Answer.TheVariants as answer
+use Rattle.cops_audit_commands.specs.declared.audit.Answer.TheVariants as answer
 use Rattle.cops.proofs.Kept.{explains, explains_accepted}
 use Rattle.cops.proofs.command.explain.Goals as goal
 

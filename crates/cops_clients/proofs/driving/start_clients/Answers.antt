@@ -5,7 +5,7 @@ use Rattle.std.proofs.lemmas.Iterator.Adapters.{YieldsList-from_vec}
 use Rattle.std.proofs.lemmas.Iterator.Consumers.{YieldsList-turn}
 use Rattle.cops_core.specs.World.{Setting}
 use Rattle.cops_cluster.specs.declared.share.Holder.{Holder}
-use Rattle.cops_cluster.specs.declared.share.Holder.TheVariants.{Client as HeldByClient}
+use Rattle.cops_cluster.specs.declared.share.Holder.TheVariants.{Client as OfClient}
 use Rattle.cops_clients.specs.declared.clients.ClientTask.{ClientTask}
 use Rattle.cops_clients.specs.Callers.{IsClientOf}
 use Rattle.cops_clients.specs.Gates.{MayHold}
@@ -17,7 +17,7 @@ spawn_with-started-requires-clause-keeps g c = λ κs met r post.
     let gives = c.into_iter-job-iterator.ensures.into_iter_gives in
     let at = YieldsList-turn (YieldsList-from_vec {s = c.into_iter-job-iterator.result} c.args.jobs.items gives.0 (omega (arith, gives.1, c.args.jobs.ok.0))) c.loop-job.yielded c.loop-job.job-iterator c.loop-job.yielded_by c.next.result c.next.new.self c.in-Some.job c.in-Some.is c.next.ensures.steps in
     let own : IsClientOf c.args.setting.now c.in-Some.job.client = subst (λ (j : ClientTask). IsClientOf c.args.setting.now j.client) (sym at.1) (c.requires.jobs.1 _ c.in-Some.job at.0) in (
-      post.0 ∙ own.3 ∙ ap HeldByClient (sym c.number.ensures) ∙ sym c.of.ensures.owner,
+      post.0 ∙ own.3 ∙ ap OfClient (sym c.number.ensures) ∙ sym c.of.ensures.owner,
       λ ended.
           let held : MayHold c.args.setting.now (g.G.Gate.may_hold c.args.gate.now) = of_client c.args.setting.now c.args.state.now.cluster (g.G.Gate.may_hold c.args.gate.now) c.in-Some.job.client c.requires.place own (post.1 ended) in
           subst (λ (s : Setting). MayHold s (g.G.Gate.may_hold c.of.result.gate.value)) (sym c.of.ensures.setting) (subst (λ (x : _). MayHold c.args.setting.now (g.G.Gate.may_hold x)) (sym c.of.ensures.gate) held),
@@ -25,12 +25,12 @@ spawn_with-started-requires-clause-keeps g c = λ κs met r post.
 
 pub loop-job-preserved : goal.loop-job-preserved
 loop-job-preserved g c =
-    let owner : c.in-Ok.handle.promise.owner ≡ HeldByClient c.in-Some.job.client.number = ap (λ (p : _). p.owner) c.in-Ok.ensures.ok ∙ c.of.ensures.owner ∙ ap HeldByClient c.number.ensures in (
+    let owner : c.in-Ok.handle.promise.owner ≡ OfClient c.in-Some.job.client.number = ap (λ (p : _). p.owner) c.in-Ok.ensures.ok ∙ c.of.ensures.owner ∙ ap OfClient c.number.ensures in (
       tt,
       tt,
       All-same (λ (h : _). (h.promise.gate.value ≡ c.args.gate.now) × (h.promise.setting.value ≡ c.args.setting.now)) _ _ c.in-Ok-push.ensures.items
           (All-push (λ (h : _). (h.promise.gate.value ≡ c.args.gate.now) × (h.promise.setting.value ≡ c.args.setting.now)) _ _ c.loop-job.invariant.2 (rw c.in-Ok.ensures.ok (c.of.ensures.gate, c.of.ensures.setting))),
       ap (map (λ (h : _). h.promise.owner)) c.in-Ok-push.ensures.items ∙ map_push (λ (h : _). h.promise.owner) c.loop-job.handles.items c.in-Ok.handle
-          ∙ ap (λ (l : List Holder). l ++ c.in-Ok.handle.promise.owner ∷ []) c.loop-job.invariant.3 ∙ ap (λ (x : Holder). map (λ (j : ClientTask). HeldByClient j.client.number) c.loop-job.yielded ++ x ∷ []) owner
-          ∙ sym (map_push (λ (j : ClientTask). HeldByClient j.client.number) c.loop-job.yielded c.in-Some.job),
+          ∙ ap (λ (l : List Holder). l ++ c.in-Ok.handle.promise.owner ∷ []) c.loop-job.invariant.3 ∙ ap (λ (x : Holder). map (λ (j : ClientTask). OfClient j.client.number) c.loop-job.yielded ++ x ∷ []) owner
+          ∙ sym (map_push (λ (j : ClientTask). OfClient j.client.number) c.loop-job.yielded c.in-Some.job),
     )

@@ -1,5 +1,5 @@
 use Rattle.std.proofs.Common.{◌≡◌, All, map}
-use Rattle.cops_cluster.specs.declared.share.Holder.TheVariants.{Client as HeldByClient}
+use Rattle.cops_cluster.specs.declared.share.Holder.TheVariants.{Client as OfClient}
 use Rattle.cops_clients.specs.declared.clients.ClientTask.{ClientTask}
 use Rattle.cops_clients.proofs.driving.start_clients.Given as goal
 
@@ -8,4 +8,4 @@ invariant-loop-job g l =
     (goal.iterator-loop-job g).can_next l.job-iterator
     × (goal.iterator-loop-job g).is_finite l.job-iterator
     × All (λ (h : _). (h.promise.gate.value ≡ l.gate) × (h.promise.setting.value ≡ l.setting)) l.handles.items
-    × (map (λ (h : _). h.promise.owner) l.handles.items ≡ map (λ (j : ClientTask). HeldByClient j.client.number) l.yielded)
+    × (map (λ (h : _). h.promise.owner) l.handles.items ≡ map (λ (j : ClientTask). OfClient j.client.number) l.yielded)

@@ -1,5 +1,5 @@
 use Rattle.std.proofs.Common.{ℕ, List, All, subst, sym, ◌∙◌}
-use Rattle.cops_core.specs.declared.script.ScriptedClient.{ScriptedClient}
+use Rattle.cops_scenario.specs.declared.script.ScriptedClient.{ScriptedClient}
 use Rattle.cops_replication.specs.Wiring.{AreReceivers as AreWired}
 use Rattle.cops_clients.specs.Opening.{HasItsScript}
 use Rattle.cops_clients.proofs.Seats.{jobs_of, receivers_of}

@@ -1,5 +1,5 @@
 use Rattle.std.proofs.Common.{List, sym, subst, refl}
-use Rattle.cops_book.specs.declared.entry.Entry.{Entry}
+use Rattle.cops_node.specs.declared.entry.Entry.{Entry}
 use Rattle.cops_node.specs.Node.{opened}
 use Rattle.cops_cluster.specs.Close.{IsReplay, number_of}
 use Rattle.cops_cluster.proofs.closing.list_at.Goals as goal

@@ -2,7 +2,7 @@ use Rattle.std.proofs.Common.{ℕ, List, ap, arith, rules}
 use Rattle.std.specs.Prelude.{◌≢◌, Some}
 use Rattle.serde_json.specs.View.{view}
 use Rattle.cops_types.specs.Format.{Fits}
-use Rattle.cops_fields.specs.Json.{text_json}
+use Rattle.cops_json.specs.Json.{text_json}
 use Rattle.cops_scenario.proofs.Forms.{part_at}
 use Rattle.cops_scenario.proofs.event.put.Goals as goal
 

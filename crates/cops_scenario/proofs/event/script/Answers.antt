@@ -1,7 +1,7 @@
 use Rattle.std.proofs.Common.{◌≡◌, ◌∙◌, arith, map, rules, sym}
 use Rattle.std.proofs.lemmas.Grind.{common_steps}
 use Rattle.serde_json.specs.View.{view}
-use Rattle.cops_core.specs.declared.script.ScriptOp.{ScriptOp}
+use Rattle.cops_scenario.specs.declared.script.ScriptOp.{ScriptOp}
 use Rattle.cops_scenario.specs.File.{op_json}
 use Rattle.cops_scenario.specs.Limits.{IsLegalOp}
 use Rattle.cops_scenario.proofs.Forms.{no_such_item, same_list}

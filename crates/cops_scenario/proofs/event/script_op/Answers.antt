@@ -3,7 +3,7 @@ use Rattle.std.specs.Prelude.{◌≢◌, Some}
 use Rattle.serde_json.specs.View.{view}
 use Rattle.cops_types.specs.KeyValue.{IsKey}
 use Rattle.cops_types.specs.Format.{Fits}
-use Rattle.cops_fields.specs.Json.{text_json}
+use Rattle.cops_json.specs.Json.{text_json}
 use Rattle.cops_scenario.proofs.Events.{no_pair}
 use Rattle.cops_scenario.proofs.Forms.{same_list}
 use Rattle.cops_scenario.proofs.event.script_op.Goals as goal

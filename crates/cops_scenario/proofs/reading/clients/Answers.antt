@@ -2,7 +2,7 @@ use Rattle.std.proofs.Common.{◌∙◌, List, map, arith, rules, subst, sym}
 use Rattle.std.proofs.lemmas.Grind.{common_steps}
 use Rattle.serde_json.specs.Data.{Data}
 use Rattle.serde_json.specs.View.{view}
-use Rattle.cops_core.specs.declared.script.ScriptedClient.{ScriptedClient}
+use Rattle.cops_scenario.specs.declared.script.ScriptedClient.{ScriptedClient}
 use Rattle.cops_scenario.specs.File.{ReportsClient, ReportClients}
 use Rattle.cops_scenario.specs.Limits.{IsLegalClient}
 use Rattle.cops_scenario.proofs.Clients.{report_next}

@@ -8,8 +8,8 @@ use Rattle.cops_place.specs.Place.{APlace, AreAscending, IsInRange}
 use Rattle.cops_place.specs.declared.fault.PlaceFault.{PlaceFault}
 use Rattle.cops_place.specs.declared.fault.PlaceFault.TheVariants.{BadCount, SplitsNotAscending}
 use Rattle.cops_types.specs.KeyValue.{IsKey}
-use Rattle.cops_fields.specs.declared.unread.Unread.{Unread}
-use Rattle.cops_fields.specs.Json.{text_json}
+use Rattle.cops_json.specs.declared.unread.Unread.{Unread}
+use Rattle.cops_json.specs.Json.{text_json}
 use Rattle.cops_scenario.proofs.Forms.{no_such_item, same_list, same_texts}
 use Rattle.cops_scenario.proofs.reading.place.Goals as goal
 

@@ -1,7 +1,7 @@
 use Rattle.std.proofs.Common.{◌≡◌, All, map, take}
 use Rattle.serde_json.specs.View.{view}
 use Rattle.cops_types.specs.KeyValue.{IsKey}
-use Rattle.cops_fields.specs.Json.{text_json}
+use Rattle.cops_json.specs.Json.{text_json}
 use Rattle.cops_scenario.proofs.reading.place.Given as goal
 
 abbrev pub invariant-loop-item : goal.invariant-loop-item

@@ -2,7 +2,7 @@ use Rattle.std.proofs.Common.{List, sym, subst, map}
 use Rattle.std.specs.Global.{Vec}
 use Rattle.cops_types.specs.Histories.{Sessions}
 use Rattle.cops_types.specs.Verdicts.{HasAcceptedVerdict}
-use Rattle.cops_book.specs.declared.entry.Entry.{Entry}
+use Rattle.cops_node.specs.declared.entry.Entry.{Entry}
 use Rattle.cops_tie.specs.Untied.{IsTied}
 use Rattle.cops_serve.proofs.ending.reported_in.Goals as goal
 

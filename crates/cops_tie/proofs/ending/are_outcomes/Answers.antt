@@ -2,8 +2,8 @@ use Rattle.std.proofs.Common.{◌≡◌, ℕ, ◌<◌, ◌∙◌, List, [], Bool
 use Rattle.std.proofs.lemmas.List.{get_or_default}
 use Rattle.cops_types.specs.Histories.{Operation}
 use Rattle.cops_core.specs.Opened.{AWorld}
-use Rattle.cops_core.specs.declared.script.ScriptOp.{ScriptOp}
-use Rattle.cops_core.specs.declared.script.ScriptedClient.{ScriptedClient}
+use Rattle.cops_scenario.specs.declared.script.ScriptOp.{ScriptOp}
+use Rattle.cops_scenario.specs.declared.script.ScriptedClient.{ScriptedClient}
 use Rattle.cops_tie.specs.declared.outcome.ClientOutcome.{ClientOutcome}
 use Rattle.cops_tie.specs.declared.outcome.ClientOutcome.TheVariants.{Done}
 use Rattle.cops_tie.specs.Outcomes.{IsOutcome}

@@ -1,5 +1,5 @@
 use Rattle.std.proofs.Common.{◌≡◌, ℕ, ◌<◌, [], slice_index_or}
-use Rattle.cops_core.specs.declared.script.ScriptedClient.{ScriptedClient}
+use Rattle.cops_scenario.specs.declared.script.ScriptedClient.{ScriptedClient}
 use Rattle.cops_tie.specs.declared.outcome.ClientOutcome.{ClientOutcome}
 use Rattle.cops_tie.specs.Outcomes.{IsOutcome}
 use Rattle.cops_tie.proofs.ending.are_outcomes.Given as goal

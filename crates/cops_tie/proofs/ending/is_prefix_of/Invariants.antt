@@ -1,6 +1,6 @@
 use Rattle.std.proofs.Common.{ℕ, ◌<◌, [], slice_index_or}
 use Rattle.cops_types.specs.Histories.{Operation}
-use Rattle.cops_core.specs.declared.script.ScriptOp.{ScriptOp}
+use Rattle.cops_scenario.specs.declared.script.ScriptOp.{ScriptOp}
 use Rattle.cops_tie.specs.Outcomes.{IsSeenAs}
 use Rattle.cops_tie.proofs.ending.is_prefix_of.Given as goal
 

@@ -1,5 +1,5 @@
 use Rattle.std.proofs.Common.{◌≡◌, ◌++◌, All, map, take}
-use Rattle.cops_book.specs.declared.entry.Entry.{Entry}
+use Rattle.cops_node.specs.declared.entry.Entry.{Entry}
 use Rattle.cops_tie.specs.Tie.{Placed}
 use Rattle.cops_tie.specs.Ticketed.{HasItsTicket, shown}
 use Rattle.cops_tie.proofs.order.add_book.Given as goal

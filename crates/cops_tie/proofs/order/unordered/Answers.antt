@@ -1,6 +1,6 @@
 use Rattle.std.proofs.Common.{◌≡◌, ◌+◌, ◌∙◌, ◌++◌, ◌∷◌, [], List, Vec, Global, length, map, take, sym, ap, ap₂, arith}
 use Rattle.std.proofs.lemmas.List.{take_more, map-append, length-map, length-take}
-use Rattle.cops_book.specs.declared.entry.Entry.{Entry}
+use Rattle.cops_node.specs.declared.entry.Entry.{Entry}
 use Rattle.cops_tie.specs.Tie.{Placed, placed}
 use Rattle.cops_tie.proofs.Books.{at_node, placed_more}
 use Rattle.cops_tie.proofs.order.unordered.Goals as goal

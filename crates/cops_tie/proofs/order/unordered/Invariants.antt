@@ -1,5 +1,5 @@
 use Rattle.std.proofs.Common.{◌≡◌, All, map, take, Vec, Global}
-use Rattle.cops_book.specs.declared.entry.Entry.{Entry}
+use Rattle.cops_node.specs.declared.entry.Entry.{Entry}
 use Rattle.cops_tie.specs.Tie.{placed}
 use Rattle.cops_tie.specs.Ticketed.{HasItsTicket, shown}
 use Rattle.cops_tie.proofs.order.unordered.Given as goal

@@ -2,7 +2,7 @@ use Rattle.std.proofs.Common.{◌≡◌, sym, ap, ap₂, ◌∙◌}
 use Rattle.std.specs.Cmp.Lexicographic.{pointwise}
 use Rattle.cops_types.specs.Dep.{is_same_dep}
 use Rattle.cops_core.specs.World.{context_in}
-use Rattle.cops_book.proofs.Same.{pointwise_true, pointwise_refl, same_pair_true, same_pair_refl}
+use Rattle.cops_node.proofs.Same.{pointwise_true, pointwise_refl, same_pair_true, same_pair_refl}
 use Rattle.cops_tie.proofs.tying.has_context.Goals as goal
 
 pub returns : goal.returns

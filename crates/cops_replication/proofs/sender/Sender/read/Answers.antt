@@ -1,6 +1,6 @@
 use Rattle.std.proofs.Common.{◌≡◌, ◌<◌, IfSome, IsSome, None, Option, ap, refl, rules, slice_index, slice_set, subst, ◌∙◌, arith}
 use Rattle.cops_cluster.specs.Cluster.{IsNode, IsPutsFrom}
-use Rattle.cops_book.specs.declared.reported.IssuedPuts.{IssuedPuts}
+use Rattle.cops_node.specs.declared.recorded.IssuedPuts.{IssuedPuts}
 use Rattle.cops_replication.specs.Lanes.{frames, repeated}
 use Rattle.cops_replication.specs.Sending.{lanes}
 use Rattle.cops_replication.specs.declared.sender.Sender.{Sender}

@@ -3,7 +3,7 @@ use Rattle.std.proofs.lemmas.List.{take_more, take_all, map-append, length-map}
 use Rattle.std.proofs.lemmas.List.Elements.{All-map}
 use Rattle.cops_place.specs.Place.{APlace}
 use Rattle.cops_place.specs.Clients.{AreClients}
-use Rattle.cops_core.specs.declared.script.ScriptedClient.{ScriptedClient}
+use Rattle.cops_scenario.specs.declared.script.ScriptedClient.{ScriptedClient}
 use Rattle.cops_scenario.specs.Scenario.{AScenario, homes_of}
 use Rattle.cops_scenario.specs.Limits.{IsClientOf}
 use Rattle.cops_scenario.proofs.scenario.Scenario.homes.Goals as goal

@@ -1,0 +1,15 @@
+use Rattle.std.proofs.Common.{subst}
+use Rattle.cops_types.specs.Histories.{Sessions}
+use Rattle.cops_audit.specs.Verdicts.{IsVerdict}
+use Rattle.cops_report.specs.Reports.{IsReport}
+use Rattle.cops_audit_commands.proofs.audit.report_on.Goals as goal
+
+pub returns : goal.returns
+returns c = λ t same. record {
+  verdict = c.args.verdict.now;
+  is_report = record {
+    is_verdict = subst (λ (s : Sessions). IsVerdict s c.args.verdict.now) same c.requires;
+    is_report = subst (λ (s : Sessions). IsReport s c.args.verdict.now c.in_ok-text.text.items) same c.in_ok-text.ensures;
+  };
+  answer_is = c.answer_of.ensures;
+}

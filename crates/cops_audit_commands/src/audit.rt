@@ -1,0 +1,250 @@
+//! The audit of a trace's bytes.
+ghost use Rattle.std.specs.Prelude.{◌≡◌, ◌⊎◌, ◌↔◌, ◌<◌, List, ℕ, IfOk, IfErr, IfSome, IsErrOf, Ok, Err};
+ghost use Rattle.std.specs.Io.KnownBytes.{Keeps};
+ghost use Rattle.cops_types.specs.Failures.{Failed};
+ghost use Rattle.cops_types.specs.declared.limits.TheConstants.{MAX_WORKERS};
+ghost use Rattle.cops_types.specs.Counted.{failures, inner};
+ghost use Rattle.cops_trace.specs.Answer.{AgreesInto, TakesFrom};
+ghost use Rattle.cops_trace.specs.Lines.{fault_line};
+ghost use Rattle.cops_batch.specs.Pieces.{MayHoldPiece};
+ghost use Rattle.cops_audit.specs.Verdicts.{IsVerdict};
+ghost use Rattle.cops_trace.specs.Text.{ATrace, sessions_of};
+ghost use Rattle.cops_audit_commands.specs.Audit.{AuditSays, Writes, WritesPrefix, IsReported, answer_of};
+ghost use Rattle.cops_audit_commands.specs.Convergent.{EncodesConvergent};
+ghost use Rattle.cops_audit_commands.specs.Fed.{WasFed};
+
+use crate::alone::judged_alone;
+use crate::fed::Fed;
+use cops_audit::Verdict;
+use cops_batch::{BatchFault, judge_with};
+use cops_command::Status;
+use cops_report::report;
+use cops_trace::{SinkTaken, TraceFault, fault_line, read_into};
+use cops_types::{Counted, Gate, History, MAX_WORKERS, Memory, write_text};
+use std::alloc::Global;
+use std::io::{Read, Write};
+use std::sync::Wait;
+use std::thread::Threads;
+use thiserror::Error;
+
+/// What an audit says of a trace's bytes.
+#[derive(Clone, Copy, Debug, PartialEq, Eq)]
+pub enum Answer {
+    /// The bytes decode to one history, and it is causally convergent.
+    Accepted,
+    /// The bytes decode to one history, and it has faults.
+    Refused,
+    /// The bytes decode to no history.
+    Faulty,
+}
+
+impl Answer {
+    ghost use Rattle.std.specs.Prelude.{◌≡◌};
+    ghost use Rattle.cops_audit_commands.specs.Audit.{answer_status};
+
+    /// The status with which a command ends for this answer.
+    pub fn status(self) -> Status
+        ensures { result ≡ answer_status self }
+    {
+        match self {
+            Answer::Accepted => Status::Accepted,
+            Answer::Refused => Status::Refused,
+            Answer::Faulty => Status::Faulty,
+        }
+    }
+}
+
+/// Why no audit was written. The numbers are the faults' codes.
+#[derive(Clone, Copy, Debug, PartialEq, Eq, Error)]
+pub enum StreamFault {
+    /// 0: out of memory.
+    #[error("out of memory")]
+    Memory,
+    /// 1: the workers are not 1 to 64.
+    #[error("the workers are not 1 to 64")]
+    BadWorkers,
+    /// 2: the gate held a worker.
+    #[error("the gate held a worker")]
+    Held,
+    /// 3: the reader failed.
+    #[error("the reader failed")]
+    ReadFailed,
+    /// 4: the writer failed.
+    #[error("the writer failed")]
+    WriteFailed,
+}
+
+/// The answer for a verdict.
+pub(crate) fn answer_of(verdict: &Verdict) -> Answer
+    ensures { result ≡ answer_of verdict.now }
+{
+    match verdict {
+        Verdict::Accepted(_) => Answer::Accepted,
+        Verdict::Refused(_) => Answer::Refused,
+    }
+}
+
+/// The answer for a verdict on a history, with its report.
+fn report_on(
+    alloc: Global,
+    history: &History,
+    verdict: &Verdict,
+) -> Result<(Answer, Vec<u8>), Memory>
+    requires { IsVerdict history.now.sessions verdict.now }
+    ensures { (t : ATrace) → history.now.sessions ≡ sessions_of t → IfOk result (λ reported. IsReported t reported.0 reported.1.items) }
+{
+    let text = report(alloc, history, verdict)?;
+    Ok((answer_of(verdict), text))
+}
+
+/// The answer for what the auditor took, with its report, by `workers` workers.
+fn judged<T: Threads + Wait + Sync, G: Gate>(
+    rt: &T,
+    alloc: Global,
+    fed: Fed,
+    workers: u8,
+    gate: &G,
+) -> Result<(Answer, Vec<u8>), StreamFault>
+    ensures reported { (t : ATrace) → WasFed fed t → IfOk result (λ reported. IsReported t reported.0 reported.1.items) }
+    ensures bad { IsErrOf result StreamFault.BadWorkers → (workers ≡ 0) ⊎ (MAX_WORKERS < workers) }
+    ensures held { IsErrOf result StreamFault.Held → (i : ℕ) × (i < workers) × MayHoldPiece (G.may_hold gate.now) i }
+    ensures no_read { ¬ IsErrOf result StreamFault.ReadFailed }
+    ensures no_write { ¬ IsErrOf result StreamFault.WriteFailed }
+{
+    let history = fed.into_online().into_history();
+    let verdict = match judge_with(rt, alloc, &history, workers, gate) {
+        Ok(verdict) => verdict,
+        Err(BatchFault::Memory) => return Err(StreamFault::Memory),
+        Err(BatchFault::BadWorkers) => return Err(StreamFault::BadWorkers),
+        Err(BatchFault::Held) => return Err(StreamFault::Held),
+    };
+    match report_on(alloc, &history, &verdict) {
+        Ok(reported) => Ok(reported),
+        Err(Memory) => Err(StreamFault::Memory),
+    }
+}
+
+/// The answer for bytes that have this fault, with its line.
+pub(crate) fn faulty(alloc: Global, fault: &TraceFault) -> Result<(Answer, Vec<u8>), StreamFault>
+    ensures reported { IfOk result (λ reported. (reported.0 ≡ Answer.Faulty) × (reported.1.items ≡ fault_line fault.now)) }
+    ensures memory { IfErr result (λ e. e ≡ StreamFault.Memory) }
+{
+    let mut text = Vec::new(alloc);
+    fault_line(alloc, fault, &mut text).or(Err(StreamFault::Memory))?;
+    Ok((Answer::Faulty, text))
+}
+
+/// The answer for a trace that is whole or cut, with its text.
+fn reported_of<T: Threads + Wait + Sync, G: Gate>(
+    rt: &T,
+    alloc: Global,
+    taken: SinkTaken<Fed>,
+    workers: u8,
+    gate: &G,
+) -> Result<(Answer, Vec<u8>), StreamFault>
+    ensures says { (bytes : List ℕ) → TakesFrom WasFed bytes taken → IfOk result (λ reported. AuditSays bytes reported.0 reported.1.items) }
+    ensures bad { IsErrOf result StreamFault.BadWorkers → (workers ≡ 0) ⊎ (MAX_WORKERS < workers) }
+    ensures held { IsErrOf result StreamFault.Held → (i : ℕ) × (i < workers) × MayHoldPiece (G.may_hold gate.now) i }
+    ensures no_read { ¬ IsErrOf result StreamFault.ReadFailed }
+    ensures no_write { ¬ IsErrOf result StreamFault.WriteFailed }
+{
+    let SinkTaken { sink, cut } = taken;
+    match cut {
+        Some(offset) => faulty(alloc, &TraceFault::Cut { offset }),
+        None if workers == 1 => judged_alone(rt, alloc, sink, gate),
+        None => judged(rt, alloc, sink, workers, gate),
+    }
+}
+
+/// The answer for what was read, with its text.
+fn reported<T: Threads + Wait + Sync, G: Gate>(
+    rt: &T,
+    alloc: Global,
+    read: Result<SinkTaken<Fed>, TraceFault>,
+    workers: u8,
+    gate: &G,
+) -> Result<(Answer, Vec<u8>), StreamFault>
+    ensures says { (bytes : List ℕ) → AgreesInto WasFed bytes read → IfOk result (λ reported. AuditSays bytes reported.0 reported.1.items) }
+    ensures bad { IsErrOf result StreamFault.BadWorkers → (workers ≡ 0) ⊎ (MAX_WORKERS < workers) }
+    ensures held { IsErrOf result StreamFault.Held → (i : ℕ) × (i < workers) × MayHoldPiece (G.may_hold gate.now) i }
+    ensures read_failed { IsErrOf result StreamFault.ReadFailed → read ≡ Err TraceFault.ReadFailed }
+    ensures read_reported { IsErrOf read TraceFault.ReadFailed → IsErrOf result StreamFault.ReadFailed }
+    ensures no_write { ¬ IsErrOf result StreamFault.WriteFailed }
+{
+    match read {
+        Ok(taken) => reported_of(rt, alloc, taken, workers, gate),
+        Err(TraceFault::Memory) => Err(StreamFault::Memory),
+        Err(TraceFault::ReadFailed) => Err(StreamFault::ReadFailed),
+        Err(fault) => faulty(alloc, &fault),
+    }
+}
+
+/// The answer for what a reader gives, with its text, by `workers` workers.
+fn read_and_reported<T: Threads + Wait + Sync, R: Read, G: Gate>(
+    rt: &T,
+    alloc: Global,
+    reader: &mut Counted<R>,
+    workers: u8,
+    gate: &G,
+) -> Result<(Answer, Vec<u8>), StreamFault>
+    ensures says { IfOk result (λ reported. IfSome (R.remaining (inner reader.old)) (λ bytes. AuditSays bytes reported.0 reported.1.items)) }
+    ensures bad { IsErrOf result StreamFault.BadWorkers → (workers ≡ 0) ⊎ (MAX_WORKERS < workers) }
+    ensures held { IsErrOf result StreamFault.Held → (i : ℕ) × (i < workers) × MayHoldPiece (G.may_hold gate.now) i }
+    ensures read_count { IsErrOf result StreamFault.ReadFailed → Failed (failures reader.old) (failures reader.new) }
+    ensures read_heard { IsErrOf result StreamFault.ReadFailed ⊎ (failures reader.new ≡ failures reader.old) }
+    ensures no_write { ¬ IsErrOf result StreamFault.WriteFailed }
+{
+    reported(rt, alloc, read_into(alloc, reader), workers, gate)
+}
+
+/// Reads a trace to its end or its first fault, judges it by `workers` workers, 1 to 64, and writes the report or the
+/// fault's line, and nothing else. Nothing is written before the input's end.
+///
+/// The errors: `BadWorkers` exactly where `workers` is not 1 to 64, and then nothing is read; `Held` where the gate
+/// held a worker at a point of its piece; `ReadFailed` where a read failed, and `WriteFailed` where a write failed,
+/// neither of which is tried again; `Memory` where memory runs out, and then nothing is written.
+pub fn audit_stream<T: Threads + Wait + Sync, R: Read, W: Write, G: Gate>(
+    rt: &T,
+    alloc: Global,
+    reader: &mut Counted<R>,
+    writer: &mut Counted<W>,
+    workers: u8,
+    gate: &G,
+) -> Result<Answer, StreamFault>
+    // What is written is the audit's text of the reader's bytes, and the answer is the audit's.
+    ensures ok { IfOk result (λ answer. IfSome (R.remaining (inner reader.old)) (λ bytes.
+        Writes bytes answer (W.contents (inner writer.old)) (W.contents (inner writer.new)))) }
+
+    // Where the answer is accepted, the bytes decode to one history, and it is causally convergent.
+    ensures accepted { IfOk result (λ answer. answer ≡ Answer.Accepted → IfSome (R.remaining (inner reader.old)) EncodesConvergent) }
+
+    // Where a write failed, a prefix of the text is written; on any other error nothing is.
+    ensures write_failed { IsErrOf result StreamFault.WriteFailed → IfSome (R.remaining (inner reader.old)) (λ bytes.
+        WritesPrefix bytes (W.contents (inner writer.old)) (W.contents (inner writer.new))) }
+    ensures nothing { (IsErrOf result StreamFault.ReadFailed ⊎ IsErrOf result StreamFault.Memory ⊎ IsErrOf result StreamFault.BadWorkers ⊎ IsErrOf result StreamFault.Held)
+        → Keeps (W.contents (inner writer.old)) (W.contents (inner writer.new)) }
+
+    // A bad number of workers is reported exactly where it is bad, before anything is read; a worker is held only by
+    // the gate.
+    ensures bad { IsErrOf result StreamFault.BadWorkers ↔ ((workers ≡ 0) ⊎ (MAX_WORKERS < workers)) }
+    ensures unread { IsErrOf result StreamFault.BadWorkers → reader.new ≡ reader.old }
+    ensures held { IsErrOf result StreamFault.Held → (i : ℕ) × (i < workers) × MayHoldPiece (G.may_hold gate.now) i }
+
+    // The devices' faults are reported exactly where they were met.
+    ensures write_count { IsErrOf result StreamFault.WriteFailed → Failed (failures writer.old) (failures writer.new) }
+    ensures read_count { IsErrOf result StreamFault.ReadFailed → Failed (failures reader.old) (failures reader.new) }
+    ensures write_heard { IsErrOf result StreamFault.WriteFailed ⊎ (failures writer.new ≡ failures writer.old) }
+    ensures read_heard { IsErrOf result StreamFault.ReadFailed ⊎ (failures reader.new ≡ failures reader.old) }
+{
+    if workers == 0 {
+        return Err(StreamFault::BadWorkers);
+    }
+    if workers > MAX_WORKERS {
+        return Err(StreamFault::BadWorkers);
+    }
+    let (answer, text) = read_and_reported(rt, alloc, reader, workers, gate)?;
+    match write_text(writer, &text) {
+        Ok(()) => Ok(answer),
+        Err(_) => Err(StreamFault::WriteFailed),
+    }
+}

@@ -1,6 +1,0 @@
-use Rattle.std.proofs.Common.{◌≡◌, ◌++◌, drop}
-use Rattle.cops_book.specs.Book.{puts_in}
-use Rattle.cops_book.proofs.reported.puts_of.Given as goal
-
-abbrev pub invariant-loop-entry : goal.invariant-loop-entry
-invariant-loop-entry l = puts_in l.entries ≡ l.puts.items ++ puts_in (drop l.entry-index l.entries)

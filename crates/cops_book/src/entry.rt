@@ -1,9 +1,0 @@
-use cops_node::{NodeEvent, Outcome};
-
-/// One step of a node: its ticket, the event, and the node's answer.
-#[derive(Debug, Drop)]
-pub struct Entry {
-    pub ticket: u64,
-    pub event: NodeEvent,
-    pub outcome: Outcome,
-}

@@ -1,0 +1,111 @@
+-- The program's command, as far as it decides how words are read.
+use Rattle.std.specs.Prelude.{codes, pos, true, [], Some}
+use Rattle.clap.specs.Words.{App, Rule, Text, new_app, new_rule, with_rule, with_subcommand}
+use Rattle.clap.specs.Simple.{new_shape}
+use Rattle.clap.specs.declared.builder.action.ArgAction.TheVariants.{Set, SetTrue}
+use Rattle.clap.specs.declared.builder.value_parser.ValueParser.{ValueParser}
+use Rattle.clap.specs.declared.builder.value_parser.ValueParser.TheVariants as parser
+use Rattle.cops_types.specs.declared.limits.TheConstants.{MAX_OPS, MAX_WORKERS}
+use Rattle.cops_command_line.specs.declared.job.TheConstants.{MAX_PORT, MAX_SESSIONS, MAX_IDLE}
+
+-- a required argument that takes one word
+abbrev pub positional : Text → Rule
+positional id = record (new_rule id) { action = Some Set; required = true; value_names = 1 }
+
+-- an option that takes one word, and may be left out
+abbrev pub value_option : Text → Rule
+value_option id = record (new_rule id) { long = Some id; action = Some Set; value_names = 1 }
+
+-- an option that takes a number, and may be left out
+abbrev pub number_option : Text → ValueParser → Rule
+number_option id number = record (value_option id) { parser = Some number }
+
+-- an option that takes no value, and may be left out
+abbrev pub flag_option : Text → Rule
+flag_option id = record (new_rule id) { long = Some id; action = Some SetTrue }
+
+-- `--workers N`, which may be left out and takes a number from 1 to 64
+abbrev pub workers_option : Rule
+workers_option = number_option (codes "workers") (parser.Signed (pos 1) (pos MAX_WORKERS))
+
+-- `--so-far`, which may be left out and takes no value
+abbrev pub so_far_option : Rule
+so_far_option = flag_option (codes "so-far")
+
+-- `--all`, which may be left out and takes no value
+abbrev pub all_option : Rule
+all_option = flag_option (codes "all")
+
+-- `--fault N`, which may be left out and takes a number from 1 to 16,000,000
+abbrev pub fault_option : Rule
+fault_option = number_option (codes "fault") (parser.Signed (pos 1) (pos MAX_OPS))
+
+-- `--picture FILE`, which may be left out
+abbrev pub picture_option : Rule
+picture_option = value_option (codes "picture")
+
+-- `PORT`, which is required, and is a number from 1 to 65,535
+abbrev pub port_argument : Rule
+port_argument = record (positional (codes "port")) { parser = Some (parser.Signed (pos 1) (pos MAX_PORT)) }
+
+-- `--sessions N`, which may be left out and takes a number from 1 to 65,535
+abbrev pub sessions_option : Rule
+sessions_option = number_option (codes "sessions") (parser.Signed (pos 1) (pos MAX_SESSIONS))
+
+-- `--idle SECONDS`, which may be left out and takes a number from 1 to 65,535
+abbrev pub idle_option : Rule
+idle_option = number_option (codes "idle") (parser.Signed (pos 1) (pos MAX_IDLE))
+
+-- `audit TRACE`, with `--workers N` or without it, and with `--so-far` or without it
+abbrev pub audit_app : App
+audit_app = with_rule (with_rule (with_rule (new_app (codes "audit")) (positional (codes "trace"))) workers_option) so_far_option
+
+-- `explain TRACE`, with `--all`, `--fault N` and `--picture FILE` or without them
+abbrev pub explain_app : App
+explain_app = with_rule (with_rule (with_rule (with_rule (new_app (codes "explain")) (positional (codes "trace"))) all_option) fault_option) picture_option
+
+-- `show TRACE`
+abbrev pub show_app : App
+show_app = with_rule (new_app (codes "show")) (positional (codes "trace"))
+
+-- `import LINES TRACE`
+abbrev pub import_app : App
+import_app = with_rule (with_rule (new_app (codes "import")) (positional (codes "lines"))) (positional (codes "trace"))
+
+-- `convert TRACE NEW`
+abbrev pub convert_app : App
+convert_app = with_rule (with_rule (new_app (codes "convert")) (positional (codes "trace"))) (positional (codes "new"))
+
+-- `run SCENARIO TRACE`
+abbrev pub run_app : App
+run_app = with_rule (with_rule (new_app (codes "run")) (positional (codes "scenario"))) (positional (codes "trace"))
+
+-- `serve PORT SCENARIO`, with `--sessions N` or without it, and with `--idle SECONDS` or without it
+abbrev pub serve_app : App
+serve_app = with_rule (with_rule (with_rule (with_rule (new_app (codes "serve")) port_argument) (positional (codes "scenario"))) sessions_option) idle_option
+
+-- with a version, and with a required subcommand as the first of the words
+abbrev pub versioned : App → App
+versioned app = record {
+  top = record (app.top) { no_binary_name = true; subcommand_required = true; has_version = true };
+  subs = app.subs;
+}
+
+-- the words of a subcommand alone, or `--version`
+abbrev pub cops_top : App
+cops_top = record {
+  top = record (new_shape (codes "cops")) { no_binary_name = true; subcommand_required = true; has_version = true };
+  subs = [];
+}
+
+-- or a subcommand that judges a trace
+abbrev pub judging_app : App
+judging_app = with_subcommand (with_subcommand cops_top audit_app.top) explain_app.top
+
+-- or one that shows a trace, imports one from lines or converts one
+abbrev pub tracing_app : App
+tracing_app = with_subcommand (with_subcommand (with_subcommand judging_app show_app.top) import_app.top) convert_app.top
+
+-- one of the subcommands
+unfoldable pub cops_app : App
+cops_app = with_subcommand (with_subcommand tracing_app run_app.top) serve_app.top

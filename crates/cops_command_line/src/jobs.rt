@@ -1,0 +1,115 @@
+//! The job of each subcommand.
+ghost use Rattle.std.specs.Prelude.{◌≡◌, IfNone, IfSome, codes};
+ghost use Rattle.clap.specs.Words.{found_of, rows_of, subcommand_rows_of};
+ghost use Rattle.cops_command_line.specs.Line.{HasNoJob, HasNoJobIn, IsJobIn, IsJobOf};
+
+use crate::job::Job;
+use crate::values::{asked, idle, is_given, port, sessions, value, workers};
+use clap::ArgMatches;
+
+/// The job of `audit`, for a trace that is whole or may be cut: a number of workers together with `--so-far` is no job.
+fn audit_job<'a>(matches: &ArgMatches<'a>) -> Option<Job<'a>>
+    ensures some { IfSome result (IsJobOf (codes "audit") (rows_of (found_of matches.now))) }
+    ensures none { IfNone result (HasNoJob (codes "audit") (rows_of (found_of matches.now))) }
+{
+    let trace = value(matches, "trace")?;
+    if !is_given(matches, "so-far") {
+        let workers = workers(matches)?;
+        return Some(Job::Audit { trace, workers });
+    }
+    match value(matches, "workers") {
+        Some(_) => None,
+        None => Some(Job::SoFar { trace }),
+    }
+}
+
+/// The job of `explain`: all faults and one of them together are no job.
+fn explain_job<'a>(matches: &ArgMatches<'a>) -> Option<Job<'a>>
+    ensures some { IfSome result (IsJobOf (codes "explain") (rows_of (found_of matches.now))) }
+    ensures none { IfNone result (HasNoJob (codes "explain") (rows_of (found_of matches.now))) }
+{
+    let trace = value(matches, "trace")?;
+    let faults = asked(matches)?;
+    let picture = value(matches, "picture");
+    Some(Job::Explain {
+        trace,
+        faults,
+        picture,
+    })
+}
+
+fn show_job<'a>(matches: &ArgMatches<'a>) -> Option<Job<'a>>
+    ensures some { IfSome result (IsJobOf (codes "show") (rows_of (found_of matches.now))) }
+    ensures none { IfNone result (HasNoJob (codes "show") (rows_of (found_of matches.now))) }
+{
+    let trace = value(matches, "trace")?;
+    Some(Job::Show { trace })
+}
+
+fn import_job<'a>(matches: &ArgMatches<'a>) -> Option<Job<'a>>
+    ensures some { IfSome result (IsJobOf (codes "import") (rows_of (found_of matches.now))) }
+    ensures none { IfNone result (HasNoJob (codes "import") (rows_of (found_of matches.now))) }
+{
+    let lines = value(matches, "lines")?;
+    let trace = value(matches, "trace")?;
+    Some(Job::Import { lines, trace })
+}
+
+fn convert_job<'a>(matches: &ArgMatches<'a>) -> Option<Job<'a>>
+    ensures some { IfSome result (IsJobOf (codes "convert") (rows_of (found_of matches.now))) }
+    ensures none { IfNone result (HasNoJob (codes "convert") (rows_of (found_of matches.now))) }
+{
+    let trace = value(matches, "trace")?;
+    let new = value(matches, "new")?;
+    Some(Job::Convert { trace, new })
+}
+
+fn run_job<'a>(matches: &ArgMatches<'a>) -> Option<Job<'a>>
+    ensures some { IfSome result (IsJobOf (codes "run") (rows_of (found_of matches.now))) }
+    ensures none { IfNone result (HasNoJob (codes "run") (rows_of (found_of matches.now))) }
+{
+    let scenario = value(matches, "scenario")?;
+    let trace = value(matches, "trace")?;
+    Some(Job::Run { scenario, trace })
+}
+
+fn serve_job<'a>(matches: &ArgMatches<'a>) -> Option<Job<'a>>
+    ensures some { IfSome result (IsJobOf (codes "serve") (rows_of (found_of matches.now))) }
+    ensures none { IfNone result (HasNoJob (codes "serve") (rows_of (found_of matches.now))) }
+{
+    let port = port(matches)?;
+    let scenario = value(matches, "scenario")?;
+    let sessions = sessions(matches)?;
+    let idle = idle(matches)?;
+    Some(Job::Serve {
+        port,
+        scenario,
+        sessions,
+        idle,
+    })
+}
+
+fn job_of<'a>(name: &str, matches: &ArgMatches<'a>) -> Option<Job<'a>>
+    ensures some { IfSome result (IsJobOf name.now (rows_of (found_of matches.now))) }
+    ensures none { IfNone result (HasNoJob name.now (rows_of (found_of matches.now))) }
+{
+    match name {
+        "audit" => audit_job(matches),
+        "explain" => explain_job(matches),
+        "show" => show_job(matches),
+        "import" => import_job(matches),
+        "convert" => convert_job(matches),
+        "run" => run_job(matches),
+        "serve" => serve_job(matches),
+        _ => None,
+    }
+}
+
+/// The job of the subcommand that was found, if it is one.
+pub fn job_in<'a>(matches: &ArgMatches<'a>) -> Option<Job<'a>>
+    ensures some { IfSome result (IsJobIn (subcommand_rows_of matches.now)) }
+    ensures none { IfNone result (HasNoJobIn (subcommand_rows_of matches.now)) }
+{
+    let (name, inner) = matches.subcommand()?;
+    job_of(name, inner)
+}

@@ -1,6 +1,0 @@
-use Rattle.std.proofs.Common.{◌≡◌, take}
-use Rattle.cops_run_stream.specs.Lines.{outcome_lines}
-use Rattle.cops_run_stream.proofs.events.lines.Given as goal
-
-abbrev pub invariant-loop-n : goal.invariant-loop-n
-invariant-loop-n l = l.text.items ≡ outcome_lines (take l.n l.outcomes)

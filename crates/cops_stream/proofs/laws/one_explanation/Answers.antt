@@ -1,8 +1,0 @@
-use Rattle.cops_stream.proofs.UniqueExplained.{explained_as_audited, one_explanation}
-use Rattle.cops_stream.proofs.laws.one_explanation.Goals as goal
-
-pub returns-clause-one : goal.returns-clause-one
-returns-clause-one c = one_explanation
-
-pub returns-clause-audited : goal.returns-clause-audited
-returns-clause-audited c = explained_as_audited

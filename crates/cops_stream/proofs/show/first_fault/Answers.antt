@@ -1,4 +1,0 @@
-use Rattle.cops_stream.proofs.show.first_fault.Goals as goal
-
-pub returns : goal.returns
-returns c = c.fault_in.ensures _ (rw c.new.ensures.device at c.read_trace.ensures.says)

@@ -1,0 +1,230 @@
+//! Test cases of scenario files.
+
+use crate::words::Part::{At, Bytes, Count, Number, Word};
+use crate::words::{line_of, no_row, outcome, text, usize_of, word};
+use anyhow::{Error, bail};
+use cops_core::Event;
+use cops_scenario::{Scenario, ScriptOp, outcome_line};
+use cops_node::Outcome;
+use cops_types::{Key, Value, Version};
+use std::alloc::Global;
+
+/// What a scenario is made of.
+fn counts(alloc: Global, scenario: &Scenario) -> Result<String, Error> {
+    let place = scenario.place();
+    let parts = [
+        Number(u64::from(place.dcs())),
+        Word(" data centres, "),
+        Number(u64::from(place.nodes())),
+        Word(" nodes, link "),
+        Number(u64::from(scenario.link())),
+        Word(", turns "),
+        Number(u64::from(scenario.turns())),
+        Word(", "),
+        Count(scenario.clients().len()),
+        Word(" clients"),
+    ];
+    text(alloc, &parts)
+}
+
+/// Replaces the scenario by the one in a text.
+fn begin(alloc: Global, scenario: &mut Option<Scenario>, text: &str) -> Result<String, Error> {
+    let read = Scenario::from_json(alloc, text.as_bytes())?;
+    let reported = counts(alloc, &read);
+    drop(scenario.replace(read));
+    reported
+}
+
+/// Where a client lives, and how long its script is.
+fn client(alloc: Global, scenario: &Scenario, words: &[&str]) -> Result<String, Error> {
+    let [number] = words else {
+        return Err(no_row());
+    };
+    match scenario.clients().get(usize_of(number)?) {
+        Some(client) => {
+            let (at, length) = (Number(u64::from(client.at)), Count(client.script.len()));
+            text(
+                alloc,
+                &[Word("at "), at, Word(", "), length, Word(" operations")],
+            )
+        }
+        None => word(alloc, "nothing"),
+    }
+}
+
+/// The text of an operation of a script.
+fn op_text(alloc: Global, op: &ScriptOp) -> Result<String, Error> {
+    match op {
+        ScriptOp::Put { key, value } => {
+            let (key, value) = (key.as_bytes(), value.as_bytes());
+            text(alloc, &[Word("put "), Bytes(key), Word("="), Bytes(value)])
+        }
+        ScriptOp::Del { key } => text(alloc, &[Word("del "), Bytes(key.as_bytes())]),
+        ScriptOp::Get { key } => text(alloc, &[Word("get "), Bytes(key.as_bytes())]),
+    }
+}
+
+/// An operation of a script, by its client and its index.
+fn script(alloc: Global, scenario: &Scenario, words: &[&str]) -> Result<String, Error> {
+    let [number, index] = words else {
+        return Err(no_row());
+    };
+    let Some(client) = scenario.clients().get(usize_of(number)?) else {
+        bail!("there is no such client");
+    };
+    match client.script.get(usize_of(index)?) {
+        Some(op) => op_text(alloc, op),
+        None => word(alloc, "nothing"),
+    }
+}
+
+/// How many events are listed.
+fn events(alloc: Global, scenario: &Scenario) -> Result<String, Error> {
+    match scenario.events() {
+        Some(events) => text(alloc, &[Count(events.len()), Word(" events")]),
+        None => word(alloc, "no list"),
+    }
+}
+
+fn client_put<'a>(
+    alloc: Global,
+    client: u16,
+    key: &'a Key,
+    value: &'a Value,
+) -> Result<String, Error> {
+    let client = u64::from(client);
+    let (key, value) = (key.as_bytes(), value.as_bytes());
+    let parts = [
+        Word("client "),
+        Number(client),
+        Word(": put "),
+        Bytes(key),
+        Word("="),
+        Bytes(value),
+    ];
+    text(alloc, &parts)
+}
+
+/// An event of a client on a key.
+fn client_does<'a>(
+    alloc: Global,
+    client: u16,
+    what: &'a str,
+    key: &'a Key,
+) -> Result<String, Error> {
+    let client = u64::from(client);
+    let key = Bytes(key.as_bytes());
+    text(alloc, &[Word("client "), Number(client), Word(what), key])
+}
+
+/// An event about a version at a data centre.
+fn about(alloc: Global, event: &str, dc: u8, version: Version) -> Result<String, Error> {
+    text(
+        alloc,
+        &[Word(event), Number(u64::from(dc)), Word(" "), At(version)],
+    )
+}
+
+fn mark_text(alloc: Global, dc: u8, version: Version, dep: u16) -> Result<String, Error> {
+    let (dc, dep) = (u64::from(dc), u64::from(dep));
+    text(
+        alloc,
+        &[
+            Word("mark "),
+            Number(dc),
+            Word(" "),
+            At(version),
+            Word(" "),
+            Number(dep),
+        ],
+    )
+}
+
+/// The text of a world's event.
+fn event_text(alloc: Global, event: &Event) -> Result<String, Error> {
+    match event {
+        Event::Put { client, key, value } => client_put(alloc, *client, key, value),
+        Event::Del { client, key } => client_does(alloc, *client, ": del ", key),
+        Event::Get { client, key } => client_does(alloc, *client, ": get ", key),
+        Event::Deliver { dc, version } => about(alloc, "deliver ", *dc, *version),
+        Event::Ask { dc, version, .. } => about(alloc, "ask ", *dc, *version),
+        Event::Mark { dc, version, dep } => mark_text(alloc, *dc, *version, *dep),
+        Event::Settle { dc, version } => about(alloc, "settle ", *dc, *version),
+    }
+}
+
+/// The event at an index of the list.
+fn event(alloc: Global, scenario: &Scenario, words: &[&str]) -> Result<String, Error> {
+    let [index] = words else {
+        return Err(no_row());
+    };
+    let Some(events) = scenario.events() else {
+        bail!("no list");
+    };
+    match events.get(usize_of(index)?) {
+        Some(event) => event_text(alloc, event),
+        None => word(alloc, "nothing"),
+    }
+}
+
+/// The line of an outcome, without its line feed.
+fn reported(alloc: Global, number: usize, outcome: &Outcome) -> Result<String, Error> {
+    let mut bytes = Vec::new(alloc);
+    outcome_line(alloc, number, outcome, &mut bytes)?;
+    line_of(alloc, &bytes)
+}
+
+fn line(alloc: Global, number: &str, words: &[&str]) -> Result<String, Error> {
+    let number = usize_of(number)?;
+    let outcome = outcome(alloc, words)?;
+    let reported = reported(alloc, number, &outcome);
+    drop(outcome);
+    reported
+}
+
+/// The answer to a call of one word, which no other word may follow.
+fn ask(alloc: Global, scenario: &Scenario, what: &str, rest: &[&str]) -> Result<String, Error> {
+    if !rest.is_empty() {
+        return Err(no_row());
+    }
+    let number = match what {
+        "format" => u64::from(scenario.format().number()),
+        "retries" => u64::from(scenario.retries()),
+        "repeat" => u64::from(scenario.repeat()),
+        "hold" => u64::from(scenario.hold()),
+        "events" => return events(alloc, scenario),
+        _ => return Err(no_row()),
+    };
+    text(alloc, &[Number(number)])
+}
+
+/// The answer to a call on the current scenario.
+fn ask_any(alloc: Global, scenario: &Scenario, words: &[&str]) -> Result<String, Error> {
+    let [what, rest @ ..] = words else {
+        return Err(no_row());
+    };
+    match *what {
+        "client" => client(alloc, scenario, rest),
+        "script" => script(alloc, scenario, rest),
+        "event" => event(alloc, scenario, rest),
+        what => ask(alloc, scenario, what, rest),
+    }
+}
+
+/// The answer to a call.
+pub fn answer(
+    alloc: Global,
+    scenario: &mut Option<Scenario>,
+    words: &[&str],
+) -> Result<String, Error> {
+    if let ["new", text] = words {
+        return begin(alloc, scenario, text);
+    }
+    if let ["line", number, outcome @ ..] = words {
+        return line(alloc, number, outcome);
+    }
+    match scenario {
+        Some(scenario) => ask_any(alloc, scenario, words),
+        None => bail!("there is no scenario"),
+    }
+}
