@@ -71,16 +71,16 @@ def plain_round(plain, *of):
     """The operations per second of the plain program."""
     if not plain:
         return float("nan")
-    _, _, told = took(0, plain, *of)
-    return int(told.split()[0]) / float(told.split()[3])
+    _, _, output = took(0, plain, *of)
+    return int(output.split()[0]) / float(output.split()[3])
 
 
 def world_round(program, events, *of):
     """The operations per second of a world, and the events per second."""
-    wall, _, told = took(0, program, "world", events, "run", *of)
+    wall, _, output = took(0, program, "world", events, "run", *of)
     read, _, _ = took(0, program, "world", events, "read", *of)
-    operations, made = (int(told.split()[at]) for at in (0, 3))
-    return operations / max(1e-9, wall - read), made / max(1e-9, wall - read)
+    operations, applied = (int(output.split()[at]) for at in (0, 3))
+    return operations / max(1e-9, wall - read), applied / max(1e-9, wall - read)
 
 
 def row(programs, folder, clients, data_centres, operations):

@@ -85,14 +85,14 @@ class Round:
     def texts(self, module, crate):
         """The texts of the sources with all mutations applied, or why one of them cannot be applied."""
         texts = {}
-        with tempfile.TemporaryDirectory() as room:
-            shutil.copytree(f"{crate.folder}/src", f"{room}/src")
+        with tempfile.TemporaryDirectory() as folder:
+            shutil.copytree(f"{crate.folder}/src", f"{folder}/src")
             for edit in self.edits:
-                changed, why = module.read_edit(edit, room)
+                changed, why = module.read_edit(edit, folder)
                 if why:
                     return None, f"{name_of(crate, edit)}: BAD EDIT: {why}"
                 for path, text in changed.items():
-                    with open(f"{room}/{path}", "w", encoding="utf-8") as file:
+                    with open(f"{folder}/{path}", "w", encoding="utf-8") as file:
                         file.write(text)
                 texts |= changed
         return texts, None
@@ -118,9 +118,9 @@ class Round:
 
     def one(self, module, crate, kept, edit, status, lines):
         """The result of one mutation. It is tried again alone if its function may have been refused because of another mutation."""
-        is_refused, told = one_judged(name_of(crate, edit), crate, self.edits[edit], status, lines)
-        if not FOR_ANOTHER.search(told) or len(self.edits) == 1:
-            return is_refused, told
+        is_refused, line = one_judged(name_of(crate, edit), crate, self.edits[edit], status, lines)
+        if not FOR_ANOTHER.search(line) or len(self.edits) == 1:
+            return is_refused, line
         alone = Round(self.is_apart)
         alone.edits[edit] = self.edits[edit]
         return alone.judged(module, crate, kept)[0]
@@ -147,7 +147,7 @@ def tried(module, crate, edits):
     are_refused = []
     with tempfile.TemporaryDirectory() as kept:
         for it in rounds_of(crate, edits):
-            for is_refused, told in it.judged(module, crate, kept):
-                print(told, flush=True)
+            for is_refused, line in it.judged(module, crate, kept):
+                print(line, flush=True)
                 are_refused.append(is_refused)
     return are_refused

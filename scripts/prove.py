@@ -4,7 +4,7 @@ the gate proves the whole crate again. It compiles programs with one compiler in
 with one process for each processor. The output and the exit status are those of the toolchain."""
 import sys
 
-from kit import build_program, kit
+from toolchain import build_program, toolchain
 
 
 def override_steps(module):
@@ -23,7 +23,7 @@ def override_steps(module):
 
 
 if __name__ == "__main__":
-    module = kit()
+    module = toolchain()
     module.edits_of = lambda crate: ([], [])
     override_steps(module)
     # Some releases of the toolchain first check the free space on the disk.

@@ -98,7 +98,7 @@ def devices():
     check("convert of a folder", cops("convert", ROOT, "/dev/null"), (4, b"", b"failed: read\n"))
     check("convert to a full device", cops("convert", path, "/dev/full"), (4, b"", b"failed: write\n"))
     with open("/dev/full", "wb") as full:
-        check("convert that cannot be told", cops("convert", path, "/dev/null", stdout=full), (4, None, b"failed: write\n"))
+        check("convert whose answer cannot be printed", cops("convert", path, "/dev/null", stdout=full), (4, None, b"failed: write\n"))
         check("convert to standard output that is full", cops("convert", path, "-", stdout=full), (4, None, b"failed: write\n"))
     value = "v" * 4000
     large = trace(["clients 1"] + [f"0 put k{i} {value} {i + 1}.0" for i in range(5000)])
@@ -135,8 +135,8 @@ def words():
         status, out, err = cops(*given)
         check(f"usage of {given}", (status, out, err != b""), (2, b"", True))
     ended = subprocess.run([BUILT, "convert", "-", "-"], input=b'{"client":1}\n', stdout=subprocess.PIPE, stderr=subprocess.PIPE)
-    told = b"faulty: bad length at 0\n" + b"this looks like JSON Lines, which `cops import` reads\n"
-    check("convert of JSON Lines", (ended.returncode, ended.stdout, ended.stderr), (2, b"", told))
+    expected = b"faulty: bad length at 0\n" + b"this looks like JSON Lines, which `cops import` reads\n"
+    check("convert of JSON Lines", (ended.returncode, ended.stdout, ended.stderr), (2, b"", expected))
 
 
 def conversions():

@@ -15,7 +15,7 @@ For more information, try '--help'.
 
 
 def asked(name, data, text, status):
-    """The audit of the trace is the same from standard input and from a file, wherever the option stands."""
+    """The audit of the trace is the same from standard input and from a file, wherever the option is."""
     wanted = (status, text.encode(), b"")
     check(f"{name}, by standard input", cops("audit", "-", "--so-far", stdin=data), wanted)
     with tempfile.NamedTemporaryFile(suffix=".trace") as file:

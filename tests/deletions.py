@@ -47,7 +47,8 @@ def audits():
 
 
 def shown():
-    head, lines = b"TraceHead format=2 clients=1\n", b"TraceDel client=0 index=0 key=x version=1.0\nTraceGone client=0 index=1 key=x version=1.0\nTraceEnd ops=2\n"
+    head = b"TraceHead format=2 clients=1\n"
+    lines = b"TraceDel client=0 index=0 key=x version=1.0\nTraceGone client=0 index=1 key=x version=1.0\nTraceEnd ops=2\n"
     check("show of a deletion", cops("show", "-", stdin=WHOLE), (0, head + lines, b""))
     wanted = (2, head.replace(b"=2 ", b"=1 ") + b"faulty: unknown kind at 9\n", b"")
     check("show of a deletion in format 1", cops("show", "-", stdin=IN_FORMAT_1), wanted)

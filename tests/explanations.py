@@ -38,7 +38,10 @@ PLACES = [
     ),
     ("clients 1\n0 put x 1 1.0\n0 put y 2 2.0\n0 missed x\n", "look at: (0,2), which returned nothing; the newer put (0,0) is its client's own"),
     ("clients 1\n0 put x 1 1.0\n0 put x 2 2.0\n0 got x 1 1.0\n", "look at: (0,2), which returned an older put; the newer put (0,1) is its client's own"),
-    ("clients 2\n0 put x 1 1.0\n0 put x 2 2.0\n1 got x 2 2.0\n1 got x 1 1.0\n", "look at: (1,1), which returned an older put; its client knew of the newer put by (1,0)"),
+    (
+        "clients 2\n0 put x 1 1.0\n0 put x 2 2.0\n1 got x 2 2.0\n1 got x 1 1.0\n",
+        "look at: (1,1), which returned an older put; its client knew of the newer put by (1,0)",
+    ),
     (
         # The newer put is client 1's own, although the client also knows of it through client 0, which had got it.
         "clients 2\n0 put x 1 1.0\n1 put x 2 2.1\n0 got x 2 2.1\n0 put y 3 3.0\n1 got y 3 3.0\n1 got x 1 1.0\n",
@@ -92,9 +95,9 @@ should have returned: (0,1) client 0 put photo=new at 2.0, or a newer put
 look at: (2,1), which returned an older put; its client knew of the newer put by (2,0)
 """.split("\n")
     of_deletion = [line.replace("client 0 put photo=new", "client 0 deleted photo").replace("got photo=new", "found a deletion of photo") for line in wanted]
-    for name, text, told in (("the whole paragraph", PHOTO, wanted), ("the whole paragraph of a deletion", DELETED_PHOTO, of_deletion)):
+    for name, text, expected in (("the whole paragraph", PHOTO, wanted), ("the whole paragraph of a deletion", DELETED_PHOTO, of_deletion)):
         status, lines = explained(lines_of(text))
-        check(name, (status, lines[: len(told) - 1], len(lines)), ((1, b""), told[:-1], len(told) + 2))
+        check(name, (status, lines[: len(expected) - 1], len(lines)), ((1, b""), expected[:-1], len(expected) + 2))
 
 
 def place_of(paragraph):

@@ -130,7 +130,7 @@ def version_of(of):
     return struct.pack(">Q", clock * 65536 + node)
 
 
-def told(line):
+def record_of(line):
     """What a line says: the name of the client, the kind of the record, and the bytes of its key, value and version."""
     of = json_of(line)
     name = name_of(of)
@@ -158,7 +158,7 @@ def plain_import(data):
         if not line.strip(BLANK):
             continue
         try:
-            name, kind, fields = told(line)
+            name, kind, fields = record_of(line)
             if name not in indices and len(indices) == MAX_CLIENTS:
                 raise Wrong("too many clients")
             client, index = indices.get(name, (len(indices), 0))
@@ -282,15 +282,17 @@ def limits():
     """The maximum number of clients, and one more; the maximum number of operations of a client, and one more."""
     clients = b"".join(b'{"client":%d,"get":"k","value":null}\n' % n for n in range(MAX_CLIENTS))
     names = b"".join(b"client %d %d\n" % (n, n) for n in range(MAX_CLIENTS))
+    all_clients, one_client = names + b"imported: 65535 operations, 65535 clients\n", b"client 0 1\nimported: 1000000 operations, 1 clients\n"
+    another = b'{"client":"more","get":"k","value":null}'
     cases = [
-        ("clients", clients, names + b"imported: 65535 operations, 65535 clients\n", b'{"client":"more","get":"k","value":null}', b"faulty: line 65536: too many clients\n"),
-        ("operations", FIRST * MAX_CLIENT_OPS, b"client 0 1\nimported: 1000000 operations, 1 clients\n", FIRST, b"faulty: line 1000001: too many operations\n"),
+        ("clients", clients, all_clients, another, b"faulty: line 65536: too many clients\n"),
+        ("operations", FIRST * MAX_CLIENT_OPS, one_client, FIRST, b"faulty: line 1000001: too many operations\n"),
     ]
-    for name, most, told, more, faulty in cases:
+    for name, most, expected, more, faulty in cases:
         with tempfile.NamedTemporaryFile() as file:
             file.write(most)
             file.flush()
-            check(f"the most {name}", cops("import", file.name, os.devnull), (0, told, b""))
+            check(f"the most {name}", cops("import", file.name, os.devnull), (0, expected, b""))
             file.write(more)
             file.flush()
             check(f"more {name} than the most", cops("import", file.name, os.devnull), (2, faulty, b""))

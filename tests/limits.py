@@ -47,7 +47,7 @@ def put_and_got(number, put, got):
     return trace([f"clients 2 format {number}", f"0 put x {put} 1.0", f"1 got x {got} 1.0"])
 
 
-def told_of(name, data, shown, words):
+def check_fault(name, data, shown, words):
     """An audit and `show` report this fault of bytes that are not a trace; `show` first prints the lines of the frames before it."""
     line = f"faulty: {words}\n"
     check(f"audit of {name}", cops("audit", "-", stdin=data), (2, line.encode(), b""))
@@ -68,7 +68,7 @@ def values_of_traces():
         else:
             audited(f"a trace with {name}", data, "faulty: bad field at 22\n", 2)
             check(f"show of a trace with {name}", cops("show", "-", stdin=data), (2, f"{head}faulty: bad field at 22\n".encode(), b""))
-            told_of(f"a get alone of {name}", of_get, head + put.format("v"), "bad field at 46")
+            check_fault(f"a get alone of {name}", of_get, head + put.format("v"), "bad field at 46")
 
 
 def values_that_differ():
@@ -85,18 +85,18 @@ def values_of_scenarios():
     for number, text, fits in each_value():
         name, put = name_of(number, text), {"put": [0, "x", text]}
         given = events(put, {"deliver": [1, "1.0"]}, {"settle": [1, "1.0"]}, {"get": [1, "x"]}, data_centres=2, clients=({"at": 0}, {"at": 1}), format=number)
-        told = (0, b"0 done 1.0\n1 held\n2 settled\n3 got 1.0\n" + ACCEPTED.encode(), b""), put_and_got(number, text, text)
-        check(f"an event with {name}", ran(given), told if fits else ((2, b"faulty: scenario field events\n", b""), b""))
+        expected = (0, b"0 done 1.0\n1 held\n2 settled\n3 got 1.0\n" + ACCEPTED.encode(), b""), put_and_got(number, text, text)
+        check(f"an event with {name}", ran(given), expected if fits else ((2, b"faulty: scenario field events\n", b""), b""))
         script = [{"put": ["x", text]}, {"get": "x"}]
         given = json.dumps({"format": number, "data_centres": 2, "clients": [{"at": 0, "script": script}, {"at": 1}]}).encode()
         recorded = trace([f"clients 2 format {number}", f"0 put x {text} 1.0", f"0 got x {text} 1.0"])
-        told = (0, b"client 0 done\nclient 1 done\n" + ACCEPTED.encode(), b""), recorded
-        check(f"a script with {name}", ran(given), told if fits else ((2, b"faulty: scenario field clients\n", b""), b""))
+        expected = (0, b"client 0 done\nclient 1 done\n" + ACCEPTED.encode(), b""), recorded
+        check(f"a script with {name}", ran(given), expected if fits else ((2, b"faulty: scenario field clients\n", b""), b""))
 
 
 def values_of_imports():
     """An import writes format 1, whose limit holds for the values of puts and of gets."""
-    told = b"client 0 1\nclient 1 2\nimported: 2 operations, 2 clients\n"
+    expected = b"client 0 1\nclient 1 2\nimported: 2 operations, 2 clients\n"
 
     def lines(put, got):
         of_put, of_get = {"client": 1, "put": "x", "value": put, "version": 1}, {"client": 2, "get": "x", "value": got, "version": 1}
@@ -105,7 +105,7 @@ def values_of_imports():
     for text, fits in ((text, fits) for number, text, fits in each_value() if number == 1):
         name = name_of(1, text)
         if fits:
-            check(f"an import with {name}", imported(lines(text, text)), (0, told, b"", put_and_got(1, text, text)))
+            check(f"an import with {name}", imported(lines(text, text)), (0, expected, b"", put_and_got(1, text, text)))
         else:
             check(f"an import with {name}", imported(lines(text, text))[:3], (2, b"faulty: line 1: bad value\n", b""))
             check(f"an import of a get of {name}", imported(lines("v", text))[:3], (2, b"faulty: line 2: bad value\n", b""))
@@ -240,8 +240,8 @@ def largest_puts():
         keys, last, text = [f"{n:064}" for n in range(limits.pairs)], "k" * 64, "v" * limits.value
         script = [*({"put": [it, "1"]} for it in keys), *({"get": it} for it in keys[:-1]), {"put": [last, text]}]
         report = f"accepted: {2 * limits.pairs} operations, {limits.pairs + 1} puts\n"
-        told = (0, b"client 0 done\nclient 1 done\n" + report.encode(), b"")
-        check(f"a script with the largest put of format {number}", ran(scripted(script, [], data_centres=2, format=number))[0], told)
+        expected = (0, b"client 0 done\nclient 1 done\n" + report.encode(), b"")
+        check(f"a script with the largest put of format {number}", ran(scripted(script, [], data_centres=2, format=number))[0], expected)
         server = Server(two_clients(number, 0, 1), 2)
         sent = [*(put("1", it) for it in keys), *(get(it) for it in keys[:-1]), put(text, last)]
         clocks = range(1, limits.pairs + 1)
@@ -272,14 +272,14 @@ def pairs_of_frames():
             of_put = "not a record at 9" if fits else "bad field at 26"
             of_deletion = "unknown kind at 9" if number == 1 else "not a record at 9" if fits else "bad field at 24"
             for kind, message, words in (("put", put_after(pairs), of_put), ("deletion", del_after(pairs), of_deletion)):
-                told_of(f"a {kind} after {name}", head + message + end, shown, words)
+                check_fault(f"a {kind} after {name}", head + message + end, shown, words)
                 replies = WELCOME + (refused(NO_CLIENTS_MESSAGE, NO_SEQ) + GOODBYE if words == "not a record at 9" else b"")
                 check(f"a session with a {kind} after {name}", server.bytes(hello(number) + message + BYE_SENT).hex(), replies.hex())
         check(f"the report of pairs in format {number}", server.ended(), (0, b"accepted: 0 operations, 0 puts\n", b""))
     for count in counts:
         words = "no head at 0" if count <= LIMITS[1].pairs else "bad field at 17"
-        told_of(f"a put after {count} pairs, the first frame", put_after(pairs_of(count)), "", words)
-        told_of(f"a deletion after {count} pairs, the first frame", del_after(pairs_of(count)), "", "unknown kind at 0")
+        check_fault(f"a put after {count} pairs, the first frame", put_after(pairs_of(count)), "", words)
+        check_fault(f"a deletion after {count} pairs, the first frame", del_after(pairs_of(count)), "", "unknown kind at 0")
 
 
 def repeated_pairs():
@@ -290,7 +290,7 @@ def repeated_pairs():
         pairs = pairs_of(limits.pairs - 1)
         for last, fits in ((pairs[0], False), (pairs[-1], False), (pairs[limits.pairs // 2], False), (("0", "2.0"), True), (("00", "1.0"), True)):
             words = "not a record at 9" if fits else "bad field at 26"
-            told_of(f"the last of {limits.pairs} pairs is {last}", head + put_after([*pairs, last]) + end, shown, words)
+            check_fault(f"the last of {limits.pairs} pairs is {last}", head + put_after([*pairs, last]) + end, shown, words)
 
 
 def largest_frames():
@@ -302,7 +302,7 @@ def largest_frames():
         for of in LIMITS.values():
             largest = put_after([(f"{n:064}", "1.0") for n in range(of.pairs)], "k" * 64, "v" * of.value)
             name, fits = f"a message of {len(largest)} bytes in format {number}", len(largest) - 4 <= limits.body
-            told_of(name, head + largest + end, shown, "not a record at 9" if fits else "bad length at 9")
+            check_fault(name, head + largest + end, shown, "not a record at 9" if fits else "bad length at 9")
             replies = WELCOME + (refused(NO_CLIENTS_MESSAGE, NO_SEQ) + GOODBYE if fits else b"")
             check(f"a session with {name}", server.bytes(hello(number) + largest + BYE_SENT).hex(), replies.hex())
         check(f"the report of large messages in format {number}", server.ended(), (0, b"accepted: 0 operations, 0 puts\n", b""))
@@ -314,15 +314,15 @@ def frames_of_traces():
         head, shown, end = head_of(number)
         for length in around_each("body"):
             name, longer, fits = f"a frame of {length} bytes in format {number}", frame(TRACE_END, bytes(length - 1)), length <= limits.body
-            told_of(name, head + longer, shown, "trailing bytes at 9" if fits else "bad length at 9")
+            check_fault(name, head + longer, shown, "trailing bytes at 9" if fits else "bad length at 9")
             cut = "cut at 9" if fits else "bad length at 9"
-            told_of(f"all but the last byte of {name}", head + longer[:-1], shown, cut)
-            told_of(f"the length of {name}", head + longer[:4], shown, cut)
+            check_fault(f"all but the last byte of {name}", head + longer[:-1], shown, cut)
+            check_fault(f"the length of {name}", head + longer[:4], shown, cut)
             so_far = (0, b"cut at 9\nso far: clean\n", b"") if fits else (2, b"faulty: bad length at 9\n", b"")
             check(f"so far of {name}", cops("audit", "-", "--so-far", stdin=head + longer[:4]), so_far)
             first, may_be_first = frame(TRACE_HEAD, struct.pack(">HH", number, 1) + bytes(length - 5)), length <= LIMITS[1].body
-            told_of(f"{name}, the first frame", first + end, "", "trailing bytes at 0" if may_be_first else "bad length at 0")
-            told_of(f"the length of {name}, the first frame", first[:4], "", "cut at 0" if may_be_first else "bad length at 0")
+            check_fault(f"{name}, the first frame", first + end, "", "trailing bytes at 0" if may_be_first else "bad length at 0")
+            check_fault(f"the length of {name}, the first frame", first[:4], "", "cut at 0" if may_be_first else "bad length at 0")
 
 
 def frames_at_the_front_door():

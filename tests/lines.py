@@ -51,9 +51,9 @@ def imported(data):
 
 
 if __name__ == "__main__":
-    told, missed = b"client 0 1\nimported: 1 operations, 1 clients\n", trace(["clients 1", "0 missed k"])
+    expected, missed = b"client 0 1\nimported: 1 operations, 1 clients\n", trace(["clients 1", "0 missed k"])
     for line in FOUND_NOTHING:
-        check(f"a get that found nothing: {line}", imported(line + b"\n"), ((0, told, b""), missed))
+        check(f"a get that found nothing: {line}", imported(line + b"\n"), ((0, expected, b""), missed))
     for line, words in WRONG:
         for before, number in ((b"", 1), (FOUND_NOTHING[0] + b"\n\n", 3)):
             wanted = (2, f"faulty: line {number}: {words}\n".encode(), b""), None

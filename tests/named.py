@@ -27,18 +27,18 @@ def definition_files():
     check("the page has three lists of what is to be believed", len(lists), 3)
     with open(os.path.join(ROOT, "docs", "DEFINITIONS.md"), encoding="utf-8") as page:
         defined = re.findall(r"^\| `(cops\w*)` \| `(\w+)` \| \w", page.read(), re.MULTILINE)
-    for told, rows in lists:
+    for stated, rows in lists:
         found = [(crate, name, int(lines)) for crate, names in crates.findall(rows) for name, lines in named.findall(names)]
-        check("the lines of a list", sum(lines for *_, lines in found), int(told))
+        check("the lines of a list", sum(lines for *_, lines in found), int(stated))
         check("the page of definitions has the files of a list", [it[:2] for it in found if it[:2] not in defined], [])
     whole = int(re.search(r"which makes (\d+) for the whole promise", text)[1])
-    check("the lines of the lists together", sum(int(told) for told, _ in lists), whole)
+    check("the lines of the lists together", sum(int(stated) for stated, _ in lists), whole)
 
 
-def wrong_edits():
+def mutations():
     """Each mutation can be applied, also those that the gate does not try: the text that it replaces occurs in its file exactly once."""
     paths = sorted(glob.glob(os.path.join(ROOT, "crates", "*", "must-fail", "*.edit")) + glob.glob(os.path.join(ROOT, "crates", "*", "tried", "*.edit")))
-    check("there are edits", len(paths) > 0, True)
+    check("there are mutations", len(paths) > 0, True)
     for path in paths:
         crate, source = os.path.dirname(os.path.dirname(path)), ""
         with open(path, encoding="utf-8") as file:

@@ -55,7 +55,7 @@ def drawn(data, number=1):
             return file.read()
 
 
-def told(picture):
+def label_and_cards(picture):
     """The label of a picture, and its cards, each with its class and the operation that it shows, or the number of operations that are left out."""
     svg = ElementTree.fromstring(picture)
     shown = []
@@ -91,19 +91,19 @@ def pictures():
     all_drawn = []
     for name, label, shown in PICTURES:
         picture = drawn(example(f"{name}.trace"))
-        check(f"the picture of {name}", told(picture), (label, shown))
+        check(f"the picture of {name}", label_and_cards(picture), (label, shown))
         all_drawn.append((name, picture))
-    check("the second doubled put", told(drawn(example("doubled.trace"), 2))[0], "doubled (1,0)")
+    check("the second doubled put", label_and_cards(drawn(example("doubled.trace"), 2))[0], "doubled (1,0)")
     with open(os.path.join(ROOT, "docs", "stale.svg"), "rb") as file:
         check("docs/stale.svg is the picture of examples/stale.trace", file.read(), dict(all_drawn)["stale"])
     for number, data in enumerate(hostile()):
         picture = drawn(data)
-        check(f"a picture of hostile bytes, {number}", (told(picture)[0], picture.isascii(), picture.count(b"<script")), ("stale (1,1)", True, 0))
+        check(f"a picture of hostile bytes, {number}", (label_and_cards(picture)[0], picture.isascii(), picture.count(b"<script")), ("stale (1,1)", True, 0))
         all_drawn.append((f"hostile bytes, {number}", picture))
     picture = drawn(many_clients(100))
-    label, shown = told(picture)
+    label, shown = label_and_cards(picture)
     check("a picture of a long chain", (label, len(shown), shown[7]), ("stale (99,2)", 14, ("left", ".. 188 more")))
-    left_out = [[card for card in told(drawn(many_clients(clients)))[1] if card[0] == "left"] for clients in (6, 7)]
+    left_out = [[card for card in label_and_cards(drawn(many_clients(clients)))[1] if card[0] == "left"] for clients in (6, 7)]
     check("pictures of chains of 12 and of 14", left_out, [[], [("left", ".. 2 more")]])
     all_drawn.append(("a long chain", picture))
     rendered(all_drawn)
@@ -137,8 +137,8 @@ def to_standard_output():
         ran = subprocess.run([BUILT, "explain", path, "--picture", "-"], stdout=subprocess.PIPE, stderr=subprocess.PIPE, cwd=folder)
         check("a picture for -", (ran.returncode, ran.stdout, ran.stderr, os.listdir(folder)), (1, picture, words[1], []))
     accepted = subprocess.run([BUILT, "explain", "-", "--picture", "-"], input=example("empty.trace"), stdout=subprocess.PIPE, stderr=subprocess.PIPE)
-    told = b"accepted: 0 operations, 0 puts\n" + NOT_DRAWN
-    check("no picture for -", (accepted.returncode, accepted.stdout, accepted.stderr), (0, b"", told))
+    expected = b"accepted: 0 operations, 0 puts\n" + NOT_DRAWN
+    check("no picture for -", (accepted.returncode, accepted.stdout, accepted.stderr), (0, b"", expected))
 
 
 def not_drawn():
@@ -157,7 +157,7 @@ def not_drawn():
             got = cops("explain", path, *words, "--picture", picture)
             with open(picture, "rb") as file:
                 check(f"nothing drawn of {name}", (got[0], got[2], file.read() == left), (status, errors, True))
-            check(f"nothing drawn anew of {name}", cops("explain", path, *words, "--picture", none), got)
+            check(f"nothing drawn of {name} in a new file", cops("explain", path, *words, "--picture", none), got)
             check(f"the new file of {name}", os.path.exists(none), status != 2)
             if os.path.exists(none):
                 os.remove(none)

@@ -123,7 +123,7 @@ def version_text(version):
     return f"{version[0]}.{version[1]}"
 
 
-def told(history, name):
+def operation_text(history, name):
     """The name of an operation with its version."""
     return f"{name_text(name)} at {version_text(history[name].version)}"
 
@@ -131,15 +131,15 @@ def told(history, name):
 def stale_line(history, get, newer):
     returned = version_text(history[get].version) if history[get].version else "nothing"
     names = " ".join(map(name_text, chain(history, newer, get)))
-    return f"stale {name_text(get)} returned {returned}, newer {told(history, newer)}, chain {names}"
+    return f"stale {name_text(get)} returned {returned}, newer {operation_text(history, newer)}, chain {names}"
 
 
 def fault_lines(history):
     """The lines of the first class that has a fault, or an empty list."""
     classes = (
-        lambda: [f"doubled {told(history, put)}" for put in doubled(history)],
-        lambda: [f"no source {told(history, get)}" for get in without_source(history)],
-        lambda: [f"not above {told(history, a)}, earlier {told(history, first)}" for a, first in not_above(history)],
+        lambda: [f"doubled {operation_text(history, put)}" for put in doubled(history)],
+        lambda: [f"no source {operation_text(history, get)}" for get in without_source(history)],
+        lambda: [f"not above {operation_text(history, a)}, earlier {operation_text(history, first)}" for a, first in not_above(history)],
         lambda: [stale_line(history, get, newer) for get, newer in stale(history)],
     )
     for lines in classes:

@@ -60,7 +60,7 @@ class World:
     def delete(self, client, key):
         return self.write(client, key, None, "del", "deleted")
 
-    def write(self, client, key, value, kind, told):
+    def write(self, client, key, value, kind, outcome):
         if client >= len(self.homes):
             return f"refused {NO_CLIENT}"
         number, deps = self.number(self.homes[client], key), self.contexts[client]
@@ -70,7 +70,7 @@ class World:
         node.settle(key, version)
         self.contexts[client] = [(key, version)]
         self.saw(client, kind, key, version)
-        return f"{told} {text_of(version)}"
+        return f"{outcome} {text_of(version)}"
 
     def get(self, client, key):
         if client >= len(self.homes):

@@ -26,7 +26,7 @@ from traces import events, outcomes_of, scripted  # noqa: E402
 from events import scenario  # noqa: E402
 from imports import imports  # noqa: E402
 from limits import limits  # noqa: E402
-from named import definition_files, wrong_edits  # noqa: E402
+from named import definition_files, mutations  # noqa: E402
 from sessions import idle_clients, listens_here_alone, replies, sent_behind, served, served_deletions, strange_peers  # noqa: E402
 from terminal import on_a_terminal  # noqa: E402
 
@@ -232,16 +232,16 @@ def to_standard_output():
     """A trace that is written to standard output, also to a pipe into an audit; everything else is printed to standard error."""
     lines, report = b"client 0 done\nclient 1 done\n", b"accepted: 4 operations, 2 puts\n"
     path = os.path.join(ROOT, "examples", "two_clients.json")
-    status, recorded, told = cops("run", path, "-")
-    check("run to standard output", (status, told), (0, lines + report))
+    status, recorded, printed = cops("run", path, "-")
+    check("run to standard output", (status, printed), (0, lines + report))
     check("audit of what it wrote", cops("audit", "-", stdin=recorded), (0, report, b""))
     program = os.path.join(ROOT, "cops")
     running = subprocess.Popen([program, "run", path, "-"], stdout=subprocess.PIPE, stderr=subprocess.PIPE)
     audit = subprocess.run([program, "audit", "-"], stdin=running.stdout, stdout=subprocess.PIPE, check=False)
     running.stdout.close()
-    told = running.stderr.read()
+    printed = running.stderr.read()
     running.stderr.close()
-    check("run into an audit", (running.wait(), told, audit.returncode, audit.stdout), (0, lines + report, 0, report))
+    check("run into an audit", (running.wait(), printed, audit.returncode, audit.stdout), (0, lines + report, 0, report))
     events, listed = ran(example("newer_put_elsewhere.json")), os.path.join(ROOT, "examples", "newer_put_elsewhere.json")
     check("events to standard output", cops("run", listed, "-"), (0, events[1], events[0][1]))
     check("a faulty scenario to standard output", cops("run", "-", "-", stdin=b"{"), (2, b"", b"faulty: scenario is not JSON\n"))
@@ -291,14 +291,14 @@ def refusals():
     check("deletions, and an empty value between them", outcomes_of(*given, format=2), (0, wanted, b""))
 
 
-def faulty_scenarios():
-    whole = {"data_centres": 2, "clients": [{"at": 0}], "events": []}
+def field(name, wanted, **changes):
+    """A scenario with these members, in place of those of a correct one, is faulty in the field `wanted`. A member that is `missing` is left out."""
+    members = {"data_centres": 2, "clients": [{"at": 0}], "events": [], **changes}
+    text = json.dumps({key: value for key, value in members.items() if value != "missing"})
+    check(f"scenario, {name}", ran(text.encode()), ((2, f"faulty: scenario field {wanted}\n".encode(), b""), b""))
 
-    def field(name, wanted, **changes):
-        changed = {key: value for key, value in {**whole, **changes}.items() if value != "missing"}
-        text = f"faulty: scenario field {wanted}\n".encode()
-        check(f"scenario, {name}", ran(json.dumps(changed).encode()), ((2, text, b""), b""))
 
+def faulty_settings():
     for value in (0, 3, -1, 1.0, "2", None, [2]):
         field(f"format {value}", "format", format=value)
     for value in ("missing", 0, 17, -1, 1.5, "2", None, [2]):
@@ -309,6 +309,11 @@ def faulty_scenarios():
         field(f"link {value}", "link", link=value)
     for value in (0, 1_000_000_001, None):
         field(f"turns {value}", "turns", turns=value)
+    field("the first of two", "splits", splits=0, link=0)
+    field("the format before them", "format", format=0, data_centres=0, splits=0)
+
+
+def faulty_clients():
     bad_clients = ("missing", None, {}, [1], [{}], [{"at": 2}], [{"at": -1}], [{"at": 0}] * 65, [{"at": 0, "script": None}])
     for value in bad_clients:
         field(f"clients {str(value)[:40]}", "clients", clients=value)
@@ -316,12 +321,15 @@ def faulty_scenarios():
         field(f"script with {operation}", "clients", clients=[{"at": 0, "script": [operation]}])
     for operation in ({"del": ["x"]}, {"del": ""}, {"del": "k" * 65}, {"del": "x", "get": "x"}, {"del": None}):
         field(f"script of format 2 with {operation}", "clients", format=2, clients=[{"at": 0, "script": [operation]}])
+    long_script = [{"at": 0, "script": [{"get": "x"}] * 10_001}]
+    field("a long script", "clients", clients=long_script)
+
+
+def faulty_events():
     for event in ({"del": [0]}, {"del": "x"}, {"del": [0, "x", ""]}, {"del": [0, ""]}, {"del": [65536, "x"]}, {"del": [0, "x"], "get": [0, "x"]}):
         field(f"event of format 2, {event}", "events", format=2, events=[event])
     for value in ("missing", 1):
         field(f"a deletion in format {value}", "events", format=value, events=[{"del": [0, "x"]}])
-    long_script = [{"at": 0, "script": [{"get": "x"}] * 10_001}]
-    field("a long script", "clients", clients=long_script)
     for event in (
         {"put": [0, "x"]}, {"put": [65536, "x", "1"]}, {"get": "x"}, {"get": [0, "x", 1]}, {"deliver": [256, "1.0"]}, {"deliver": [0, "0.0"]},
         {"deliver": [0, "1"]}, {"deliver": [0, "01.0"]}, {"deliver": [0, "1.00"]}, {"deliver": [0, "1.1024"]}, {"deliver": [0, "+1.0"]},
@@ -331,9 +339,11 @@ def faulty_scenarios():
         field(f"event {str(event)[:40]}", "events", events=[event])
     for value in (None, {}, [{"get": [0, "x"]}] * 100_001):
         field(f"events {str(value)[:40]}", "events", events=value)
-    field("a script beside events", "events", clients=[{"at": 0, "script": []}])
-    field("the first of two", "splits", splits=0, link=0)
-    field("the format before them", "format", format=0, data_centres=0, splits=0)
+    field("a script together with events", "events", clients=[{"at": 0, "script": []}])
+
+
+def faulty_texts():
+    """Texts that are not JSON, or whose root is not an object, and texts with numbers, members and duplicates that JSON allows."""
     for text in (b"[]", b"1", b"null"):
         check(f"scenario {text}", ran(text), ((2, b"faulty: scenario field root\n", b""), b""))
     for name, text in (("no bytes", b""), ("not UTF-8", b'"\xff"'), ("cut", b"{"), ("too deep", b"[" * 128 + b"]" * 128), ("two values", b"{} {}")):
@@ -342,8 +352,17 @@ def faulty_scenarios():
     for digits, words in ((30, b"field data_centres"), (400, b"is not JSON")):
         text = b'{"data_centres":' + b"9" * digits + b"}"
         check(f"a number of {digits} digits", ran(text), ((2, b"faulty: scenario " + words + b"\n", b""), b""))
-    check("unknown members", ran(events({"get": [0, "x"]}, colour="blue", clients=({"at": 0, "name": "a"},)))[0], (0, b"0 missed\naccepted: 1 operations, 0 puts\n", b""))
-    check("of a member that stands twice, the last", ran(b'{"data_centres":0,"data_centres":1,"clients":[],"events":[]}')[0], (0, b"accepted: 0 operations, 0 puts\n", b""))
+    unknown = events({"get": [0, "x"]}, colour="blue", clients=({"at": 0, "name": "a"},))
+    check("unknown members", ran(unknown)[0], (0, b"0 missed\naccepted: 1 operations, 0 puts\n", b""))
+    twice = b'{"data_centres":0,"data_centres":1,"clients":[],"events":[]}'
+    check("of a member that occurs twice, the last", ran(twice)[0], (0, b"accepted: 0 operations, 0 puts\n", b""))
+
+
+def faulty_scenarios():
+    faulty_settings()
+    faulty_clients()
+    faulty_events()
+    faulty_texts()
 
 
 def replaced():
@@ -482,13 +501,18 @@ def many_workers():
 
 def words():
     path = os.path.join(ROOT, "examples", "empty.trace")
-    for given in (["audit"], ["audit", b"\xff"], [b"\xff"], ["nothing"], ["audit", path, "more"], ["audit", "--nothing", path], ["show"], ["run", "a"], ["judge", "a", "b"]):
+    for given in (
+        ["audit"], ["audit", b"\xff"], [b"\xff"], ["nothing"], ["audit", path, "more"], ["audit", "--nothing", path], ["show"], ["run", "a"],
+        ["judge", "a", "b"],
+    ):  # fmt: skip
         status, out, err = cops(*given)
         check(f"usage of {given}", (status, out, err != b""), (2, b"", True))
     for given in (["--all", "--fault", "2", path], ["--fault=1", path, "--all", "--picture", "a"], [path, "--all", "--fault", "16000000"]):
         check(f"usage of explain {given}", cops("explain", *given), (2, b"", ALL_WITH_FAULT))
-    mistaken = (["--fault", "0", path], ["--fault", "16000001", path], ["--fault", path], ["--all=no", path], [path, "--picture"], ["--all"], [path, "--all", "--all"])
-    for given in mistaken:
+    for given in (
+        ["--fault", "0", path], ["--fault", "16000001", path], ["--fault", path], ["--all=no", path], [path, "--picture"], ["--all"],
+        [path, "--all", "--all"],
+    ):  # fmt: skip
         status, out, err = cops("explain", *given)
         check(f"usage of explain {given}", (status, out, err != b"", err == ALL_WITH_FAULT), (2, b"", True, False))
     for command in ("audit", "explain", "show", "import", "convert", "run", "serve"):
@@ -527,7 +551,7 @@ def no_thread():
     clients = [{"at": 0, "script": [{"get": "a"}]} for _ in range(64)]
     soft, hard = resource.getrlimit(resource.RLIMIT_STACK)
     if hard != resource.RLIM_INFINITY and hard < 8 << 20:
-        skip("a run with more threads than the memory's limit lets be", "a thread's stack may not have 8 MB")
+        skip("a run with more threads than the limit of memory allows", "a thread's stack may not have 8 MB")
         return
     with tempfile.TemporaryDirectory() as folder:
         path = os.path.join(folder, "scenario.json")
@@ -536,14 +560,15 @@ def no_thread():
         resource.setrlimit(resource.RLIMIT_STACK, (8 << 20, hard))
         got = cops("run", path, os.path.join(folder, "run.trace"), limit=256 << 20)
         resource.setrlimit(resource.RLIMIT_STACK, (soft, hard))
-    check("a run with more threads than the memory's limit lets be", got, (4, b"", b"failed: no thread\n"))
+    check("a run with more threads than the limit of memory allows", got, (4, b"", b"failed: no thread\n"))
 
 
 for tests in (
-    examples, deletions, limits, conversions, long_chain, many_rounds, faults, cut_traces, shown, scenarios, refusals, faulty_scenarios, replaced, over_inputs, lines_in_place_of_a_trace, scripts, mixed_scripts, working_clusters,
-    plain_cluster.random_worlds, many_workers, served, served_deletions, replies, strange_peers, sent_behind, idle_clients, listens_here_alone, words, devices,
-    on_a_terminal, generated, long_traces, each_kind, many_suspects, little_memory, no_thread, imports, pictures, redis, definition_files, wrong_edits,
-    plain.rows, plain.random_histories, plain.random_cuts, plain.cuts_of_deletions, plain_reader.changed_bytes,
+    examples, deletions, limits, conversions, long_chain, many_rounds, faults, cut_traces, shown, scenarios, refusals, faulty_scenarios, replaced,
+    over_inputs, lines_in_place_of_a_trace, scripts, mixed_scripts, working_clusters, plain_cluster.random_worlds, many_workers, served, served_deletions,
+    replies, strange_peers, sent_behind, idle_clients, listens_here_alone, words, devices, on_a_terminal, generated, long_traces, each_kind, many_suspects,
+    little_memory, no_thread, imports, pictures, redis, definition_files, mutations, plain.rows, plain.random_histories, plain.random_cuts,
+    plain.cuts_of_deletions, plain_reader.changed_bytes,
 ):
     tests()
 sys.exit(ended())

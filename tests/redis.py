@@ -20,16 +20,16 @@ def redis():
         return
     with tempfile.TemporaryDirectory() as folder:
         ran = subprocess.run([sys.executable, RUN, folder], stdout=subprocess.PIPE, timeout=PATIENCE)
-        told = ran.stdout.decode().split("\n")
+        lines = ran.stdout.decode().split("\n")
         check("clients of Redis are recorded", ran.returncode, 0)
-        check("all at the primary: imported", "imported: 240 operations, 4 clients" in told, True)
+        check("all at the primary: imported", "imported: 240 operations, 4 clients" in lines, True)
         check("all at the primary: audited", cops("audit", os.path.join(folder, "primary.trace")), (0, b"accepted: 240 operations, 80 puts\n", b""))
-        check("some at the replica: imported", "imported: 87 operations, 4 clients" in told, True)
+        check("some at the replica: imported", "imported: 87 operations, 4 clients" in lines, True)
         text = b"refused: 87 operations, 43 puts, 1 faults\nstale (1,2) returned 1.0, newer (0,1) at 2.0, chain (0,1) (0,2) (1,1) (1,2)\n"
         # Carol's and Dave's puts take versions between those of Alice's.
         got, out, errors = cops("audit", os.path.join(folder, "both.trace"))
         check("some at the replica: audited", (got, without_newer(out), errors), (1, without_newer(text), b""))
-        check("some at the replica: explained", "fault 1: stale (1,2)" in told, True)
+        check("some at the replica: explained", "fault 1: stale (1,2)" in lines, True)
 
 
 def without_newer(text):

@@ -67,9 +67,9 @@ def on_a_copy(test):
         test(Copy(folder))
 
 
-def logic_of(kit):
-    """The logic of a release of the toolchain, for which `rt version` prints `KIT logic LOGIC`."""
-    return kit.rpartition(" logic ")[2]
+def logic_of(toolchain):
+    """The logic of a release of the toolchain, for which `rt version` prints `TOOLCHAIN logic LOGIC`."""
+    return toolchain.rpartition(" logic ")[2]
 
 
 def toolchain_of(root):
@@ -78,32 +78,32 @@ def toolchain_of(root):
         return next(line for line in file if line.startswith(MADE_WITH)).removeprefix(MADE_WITH).strip()
 
 
-def differences(root, program, kit):
+def differences(root, program, toolchain):
     """What is wrong with the release of a tree, given the program that this toolchain built from the tree. All toolchains with the same logic build the same
     bytes."""
     release = os.path.join(root, "release", "cops")
     hashes = subprocess.run(["sha256sum", "-c", "--status", "release/SOURCES"], cwd=root)
     if not filecmp.cmp(program, release, shallow=False):
-        yield "release/cops is not the program that was proved: after a change of what it is made of, release/make makes it anew"
+        yield "release/cops is not the program that was proved: release/make has to run after a change of what it is made of"
     if hashes.returncode:
-        yield "release/SOURCES names other files than are there: release/make makes it anew"
-    if logic_of(toolchain_of(root)) != logic_of(kit):
+        yield "release/SOURCES names other files than there are: release/make has to run"
+    if logic_of(toolchain_of(root)) != logic_of(toolchain):
         yield "release/SOURCES names another logic"
 
 
 def is_what_was_proved():
     program = os.path.join(ROOT, "crates", "cops", "out", "cops")
-    kit = subprocess.run(["rt", "version"], stdout=subprocess.PIPE, text=True).stdout.strip()
-    check("the release", list(differences(ROOT, program, kit)), [])
-    told = subprocess.run([program, "--version"], stdout=subprocess.PIPE, text=True).stdout
-    check("the version names the kit and the logic", told, f"cops 0.1.0 ({toolchain_of(ROOT).replace(' logic', ', logic')})\n")
+    toolchain = subprocess.run(["rt", "version"], stdout=subprocess.PIPE, text=True).stdout.strip()
+    check("the release", list(differences(ROOT, program, toolchain)), [])
+    printed = subprocess.run([program, "--version"], stdout=subprocess.PIPE, text=True).stdout
+    check("the version names the toolchain and the logic", printed, f"cops 0.1.0 ({toolchain_of(ROOT).replace(' logic', ', logic')})\n")
 
     def changed(copy):
         one_byte_changed(copy.file("release", "cops"))
-        check("a changed byte is told", len(list(differences(copy.root, program, kit))), 2)
+        check("a changed byte is reported", len(list(differences(copy.root, program, toolchain))), 2)
 
     def other_logic(copy):
-        check("another logic is told", len(list(differences(copy.root, program, "rattle-kit-0 logic 0"))), 1)
+        check("another logic is reported", len(list(differences(copy.root, program, "rattle-kit-0 logic 0"))), 1)
 
     on_a_copy(changed)
     on_a_copy(other_logic)

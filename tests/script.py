@@ -101,7 +101,7 @@ def by_links(tree):
     for name, shell in shells():
         for given in ("cops", "relative", "twice"):
             check(f"{name}: by the link {given}", tree.answer(*shell, script=os.path.join(tree.links, given)), ANSWER)
-        check(f"{name}: by a link of the folder it stands in", tree.answer(*shell, script="./relative", folder=tree.links), ANSWER)
+        check(f"{name}: by a link in the current folder", tree.answer(*shell, script="./relative", folder=tree.links), ANSWER)
     path = f"{tree.links}:/usr/bin:/bin"
     ran = subprocess.run(["cops", "audit", "a trace"], capture_output=True, env={"PATH": path}, cwd="/")
     check("by a link on PATH", (ran.returncode, ran.stdout, ran.stderr), ANSWER)

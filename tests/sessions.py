@@ -97,7 +97,8 @@ def served():
     check("the report of both", server.ended(), (0, b"accepted: 2 operations, 1 puts\n", b""))
 
     server = Server(example("two_clients.json"), 2)
-    check("the first session of the example", server.lines("hello 0", "put x 1", "get x", "bye"), ["hello from data centre 0, 1 nodes", "done 1.0", "got 1 1.0", "bye"])
+    lines = ["hello from data centre 0, 1 nodes", "done 1.0", "got 1 1.0", "bye"]
+    check("the first session of the example", server.lines("hello 0", "put x 1", "get x", "bye"), lines)
     lines = ["hello from data centre 1, 1 nodes", "got 1 1.0", "clock 1, keys 1, settled 1, held 0", "bye"]
     check("its second session", server.lines("hello 1", "get x", "status 0", "bye"), lines)
     check("its report", server.ended(), (0, b"accepted: 3 operations, 1 puts\n", b""))
@@ -117,8 +118,8 @@ def served_deletions():
     server = Server(one_client(format=2), 2)
     hello, bye = "000000050100020000", "000000010f"
     given = hello + "0000000a03000000010178000131" + "0000000716000000020178" + "0000000704000000030178" + bye
-    wanted = "00000003020001" + "0000000d05000000010000000000010000" + "0000000d17000000020000000000020000" + "0000000d18000000030000000000020000" + "0000000110"
-    check("a session with a deletion by hand", server.bytes(bytes.fromhex(given)).hex(), wanted)
+    done, deleted, gone = "0000000d05000000010000000000010000", "0000000d17000000020000000000020000", "0000000d18000000030000000000020000"
+    check("a session with a deletion by hand", server.bytes(bytes.fromhex(given)).hex(), "00000003020001" + done + deleted + gone + "0000000110")
     got = server.lines("hello 0 2", "get x", "check x 2.0", "status 0", "put x 3", "get x", "bye")
     lines = ["hello from data centre 0, 1 nodes", "gone 2.0", "yes", "clock 2, keys 1, settled 2, held 0", "done 3.0", "got 3 3.0", "bye"]
     check("the session after it", got, lines)
@@ -130,13 +131,16 @@ def served_deletions():
     check("the report of both data centres", server.ended(), (0, b"accepted: 5 operations, 3 puts\n", b""))
 
 
-def replies():
-    """The replies of the front door to each message, before a greeting and after it, to garbage, and to a session that is cut anywhere."""
-    hello, put, bye = "000000050100010000", "0000000a03000000010178000131", "000000010f"
-    welcome, done, goodbye = "00000003020001", "0000000d05000000010000000000010000", "0000000110"
+# Messages in hexadecimal digits, a greeting, a put and a goodbye, and the reply to each.
+GREETING, FIRST_PUT, BYE = "000000050100010000", "0000000a03000000010178000131", "000000010f"
+WELCOME, DONE, GOODBYE = "00000003020001", "0000000d05000000010000000000010000", "0000000110"
+
+
+def sessions_of_one_message():
+    """Each message in hexadecimal digits, before a greeting and after it, with the replies to it."""
     get, later = "0000000704000000020178", "0000000f0a0000000501780000000000090000"
     before = [
-        (put, "00000006080000000110"),
+        (FIRST_PUT, "00000006080000000110"),
         (get, "00000006080000000210"),
         (later, "00000006080000000510"),
         ("000000060d0000000300", "00000006080000000310"),
@@ -144,36 +148,40 @@ def replies():
         ("000000050100010001", "00000006080000000003"),
         ("000000050b00000007", "00000006080000000712"),
         ("000000050c00000008", "00000006080000000812"),
-        (welcome, "00000006080000000012"),
-        (done, "00000006080000000112"),
+        (WELCOME, "00000006080000000012"),
+        (DONE, "00000006080000000112"),
         ("0000002409017000013600000000000300000002016b0000000000020000016b0000000000020040", "00000006080000000012"),
         ("000000051500000002", "00000006080000000012"),
-        (bye, goodbye),
-        ("000000050100020000" + put + hello, "00000006080000000011" + "00000006080000000110" + welcome),
+        (BYE, GOODBYE),
+        ("000000050100020000" + FIRST_PUT + GREETING, "00000006080000000011" + "00000006080000000110" + WELCOME),
     ]
     after = [
         (get, "000000050700000002"),
         (later, "000000050c00000005"),
-        (hello, "00000006080000000012"),
+        (GREETING, "00000006080000000012"),
         ("000000050100020000", "00000006080000000012"),
         ("000000050b00000007", "00000006080000000712"),
         ("000000060d0000000300", "000000190e000000030000000000000000000000000000000000000000"),
         ("000000060d0000000401", "00000006080000000413"),
-        (bye, goodbye),
-        (put, done),
+        (BYE, GOODBYE),
+        (FIRST_PUT, DONE),
     ]
-    sessions = [*before, *((hello + given, welcome + wanted) for given, wanted in after)]
-    deletion = "0000000716000000010178"
+    return [*before, *((GREETING + given, WELCOME + wanted) for given, wanted in after)]
+
+
+def replies():
+    """The replies of the front door to each message, before a greeting and after it, to garbage, and to a session that is cut anywhere."""
+    sessions, deletion = sessions_of_one_message(), "0000000716000000010178"
     garbage = ("00000000", "00008001", "ffffffffff", "000000011c", "000000020f00", "0000000704000000010078", deletion)
-    whole = bytes.fromhex(hello + put + bye)
+    whole = bytes.fromhex(GREETING + FIRST_PUT + BYE)
     server = Server(one_client(), len(sessions) + len(garbage) + len(whole))
     for given, wanted in sessions:
         check(f"replies to {given}", server.bytes(bytes.fromhex(given)).hex(), wanted)
     for given in garbage:
-        check(f"replies to {given}", server.bytes(bytes.fromhex(hello + given)).hex(), welcome)
+        check(f"replies to {given}", server.bytes(bytes.fromhex(GREETING + given)).hex(), WELCOME)
     for length in range(len(whole)):
         got = server.bytes(whole[:length])
-        check(f"replies to a session of {length} bytes", (got[:7], len(got)), (bytes.fromhex(welcome)[: len(got)], (length >= 9) * 7 + (length >= 23) * 17))
+        check(f"replies to a session of {length} bytes", (got[:7], len(got)), (bytes.fromhex(WELCOME)[: len(got)], (length >= 9) * 7 + (length >= 23) * 17))
     status, out, err = server.ended()
     check("the report after them", (status, out, err), (0, b"accepted: 7 operations, 6 puts\n", b""))
 
@@ -206,7 +214,11 @@ def strange_peers():
     check("a peer after all of them", (got[0], got[2].split()[:2], got[3]), ("hello from data centre 0, 1 nodes", ["got", "2"], "bye"))
     status, out, err = server.ended()
     check("the report after strange peers", (status, out.startswith(b"accepted: "), err), (0, True, b""))
+    not_served()
 
+
+def not_served():
+    """A port in use, a scenario that is faulty or cannot be read, and wrong usage."""
     port = free_port()
     with socket.socket() as taken:
         taken.bind(("127.0.0.1", port))
@@ -309,9 +321,9 @@ def listens_here_alone():
     with socket.socket() as known:
         known.bind(("127.0.0.1", 0))
         known.listen()
-        told = list(listening(known.getsockname()[1]))
-    if told != [LOOPBACK]:
-        skip("where the front door listens", "the system's tables do not tell of a socket that listens")
+        addresses = list(listening(known.getsockname()[1]))
+    if addresses != [LOOPBACK]:
+        skip("where the front door listens", "the system's tables do not show a socket that listens")
         return
     server = Server(one_client(), 1)
     for _ in range(2000):

@@ -109,9 +109,9 @@ def sessions():
     """Lines that are not messages among others, and values with spaces. The session continues after each of them."""
     server = Server(5)
     typed = b"".join(line + b"\n" for line, _ in WRONG)
-    told = b"".join(b"client: line %d: %s\n" % (number, why) for number, (_, why) in enumerate(WRONG, 2))
+    errors = b"".join(b"client: line %d: %s\n" % (number, why) for number, (_, why) in enumerate(WRONG, 2))
     answer = server.client(b"hello 0\n" + typed + b"\n  \nput x 1\nbye\n")
-    check("lines that are no messages", answer, (1, b"hello from data centre 0, 1 nodes\ndone 1.0\nbye\n", told))
+    check("lines that are no messages", answer, (1, b"hello from data centre 0, 1 nodes\ndone 1.0\nbye\n", errors))
     values = [(b"put x a b  c\n", b"a b  c"), (b"put x  a\r\n", b" a"), (b"put x a \n", b"a "), ("  put x ü \"q\"\n".encode(), 'ü "q"'.encode())]
     typed = b"hello 0\n" + b"".join(line + b"get x\n" for line, _ in values) + b"check x 2.0\nstatus 0\nstatus 63\nget y\nbye"
     got = b"".join(b"done %d.0\ngot %s %d.0\n" % (clock, value, clock) for clock, (_, value) in enumerate(values, 2))
@@ -120,7 +120,8 @@ def sessions():
     check("a message behind the end", server.client(b"bye\nget x\n")[1:], (b"bye\nthe session has ended\n", b""))
     check("nothing is typed", server.client(b""), (0, b"", b""))
     with open("/dev/full", "wb") as full:
-        check("nobody takes the replies", server.client(b"hello 0\n", stdout=full), (1, None, b"client: port %s: No space left on device\n" % server.port.encode()))
+        line = b"client: port %s: No space left on device\n" % server.port.encode()
+        check("nobody takes the replies", server.client(b"hello 0\n", stdout=full), (1, None, line))
     check("the report", server.ended(), (0, b"accepted: 10 operations, 5 puts\n", b""))
 
 
@@ -128,18 +129,18 @@ def deletions():
     """A cluster of format 2 has deletions. A deletion ends the session in a cluster of format 1, and before a greeting in one of format 2."""
     server = Server(4, WITH_DELETIONS)
     typed = b"hello 0\nhello 0 2\nput x 1\ndelete x\nget x\nput x \ndelete y\nget y\nget z\ncheck x 2.0\nbye\n"
-    told = b"refused 17\nhello from data centre 0, 1 nodes\ndone 1.0\ndeleted 2.0\ngone 2.0\ndeleted 3.0\ngone 3.0\nmissed\nyes\nbye\n"
+    expected = b"refused 17\nhello from data centre 0, 1 nodes\ndone 1.0\ndeleted 2.0\ngone 2.0\ndeleted 3.0\ngone 3.0\nmissed\nyes\nbye\n"
     wrong = b"client: line 6: the message is written put KEY VALUE\n"
-    check("a session with deletions", server.client(typed), (1, told, wrong))
+    check("a session with deletions", server.client(typed), (1, expected, wrong))
     check("a deletion before a greeting", server.client(b"delete x\nget x\n")[1:], (b"the session has ended\n", b""))
     check("a deletion behind a refused greeting", server.client(b"hello 0 1\ndelete x\n")[1:], (b"refused 17\nthe session has ended\n", b""))
     typed = b"hello 0 2\nput y 2\nget y\nget x\nbye\n"
-    told = b"hello from data centre 0, 1 nodes\ndone 4.0\ngot 2 4.0\ngone 2.0\nbye\n"
-    check("a session after them", server.client(typed), (0, told, b""))
+    expected = b"hello from data centre 0, 1 nodes\ndone 4.0\ngot 2 4.0\ngone 2.0\nbye\n"
+    check("a session after them", server.client(typed), (0, expected, b""))
     check("the report of deletions", server.ended(), (0, b"accepted: 9 operations, 4 puts\n", b""))
     server = Server(2)
-    told = b"refused 17\nhello from data centre 0, 1 nodes\ndone 1.0\nthe session has ended\n"
-    check("a deletion in format 1", server.client(b"hello 0 2\nhello 0\nput x 1\ndelete x\nget x\n"), (1, told, b""))
+    expected = b"refused 17\nhello from data centre 0, 1 nodes\ndone 1.0\nthe session has ended\n"
+    check("a deletion in format 1", server.client(b"hello 0 2\nhello 0\nput x 1\ndelete x\nget x\n"), (1, expected, b""))
     check("a session behind it", server.client(b"hello 0\nget x\nbye\n"), (0, b"hello from data centre 0, 1 nodes\ngot 1 1.0\nbye\n", b""))
     check("the report of format 1", server.ended(), (0, b"accepted: 2 operations, 1 puts\n", b""))
 
@@ -151,17 +152,17 @@ def longest_values():
     before = b"client: line %d: a value has 0 to 4096 bytes\n"
     server = Server(1)
     typed = b"hello 0\nput x %s\nput x %s\nget x\nbye\n" % (b"v" * short, b"v" * (short + 1))
-    told = welcome + b"done 1.0\ngot %s 1.0\nbye\n" % (b"v" * short)
-    check("the longest value of format 1", server.client(typed), (1, told, before % 3))
+    expected = welcome + b"done 1.0\ngot %s 1.0\nbye\n" % (b"v" * short)
+    check("the longest value of format 1", server.client(typed), (1, expected, before % 3))
     check("the report of it", server.ended(), (0, b"accepted: 2 operations, 1 puts\n", b""))
     server = Server(2, WITH_DELETIONS)
     longer, most = b"put x %s\n" % (b"v" * (short + 1)), "ü".encode() * (long // 2)
     typed = longer + b"hello 0 1\n" + longer + b"hello 0 2\nput x %s\nput x %sv\nget x\nbye\n" % (most, most)
-    told = b"refused 17\n" + welcome + b"done 1.0\ngot %s 1.0\nbye\n" % most
+    expected = b"refused 17\n" + welcome + b"done 1.0\ngot %s 1.0\nbye\n" % most
     wrong = before % 1 + before % 3 + b"client: line 6: a value has 0 to 16384 bytes\n"
-    check("the longest value of format 2", server.client(typed), (1, told, wrong))
-    told = welcome + b"refused 18\ndone 2.0\ngot %s 2.0\nbye\n" % (b"v" * (short + 1))
-    check("a longer value behind a second greeting", server.client(b"hello 0 2\nhello 0 1\n" + longer + b"get x\nbye\n"), (0, told, b""))
+    check("the longest value of format 2", server.client(typed), (1, expected, wrong))
+    expected = welcome + b"refused 18\ndone 2.0\ngot %s 2.0\nbye\n" % (b"v" * (short + 1))
+    check("a longer value behind a second greeting", server.client(b"hello 0 2\nhello 0 1\n" + longer + b"get x\nbye\n"), (0, expected, b""))
     check("the report of both", server.ended(), (0, b"accepted: 4 operations, 2 puts\n", b""))
 
 

@@ -14,7 +14,7 @@ PAUSE_SECONDS = 3
 
 def all_of(terminal):
     """Everything that is written to a terminal, which is then closed."""
-    told = b""
+    written = b""
     while True:
         try:
             piece = os.read(terminal, 4096)
@@ -23,8 +23,8 @@ def all_of(terminal):
             piece = b""
         if not piece:
             os.close(terminal)
-            return told
-        told += piece
+            return written
+        written += piece
 
 
 def slowly(words, data):
@@ -38,14 +38,14 @@ def slowly(words, data):
         time.sleep(PAUSE_SECONDS)
         pipe.write(data[len(data) // 2 :])
     out = process.stdout.read()
-    told = all_of(terminal)
-    return process.wait(), out, told
+    written = all_of(terminal)
+    return process.wait(), out, written
 
 
 def last_line(ended):
     """The result of a command, with only the last line that it wrote to the terminal."""
-    status, out, told = ended
-    return status, out, told[told.rfind(b"\r", 0, told.rfind(b"\r")) :]
+    status, out, written = ended
+    return status, out, written[written.rfind(b"\r", 0, written.rfind(b"\r")) :]
 
 
 def no_words():
@@ -53,13 +53,13 @@ def no_words():
     terminal, other = pty.openpty()
     process = subprocess.Popen([BUILT], stdin=other, stdout=subprocess.PIPE, stderr=other)
     os.close(other)
-    told = os.read(terminal, 4096)
+    written = os.read(terminal, 4096)
     # The end of the input.
     os.write(terminal, b"\x04")
     out = process.stdout.read()
     ended = process.wait()
     os.close(terminal)
-    return told, ended, out
+    return written, ended, out
 
 
 def on_a_terminal():
@@ -73,9 +73,9 @@ def on_a_terminal():
     check("a slow audit of a faulty trace", last_line(slowly(["audit", "-"], bad)), (2, b"faulty: bad count at 57\n", line))
     check("a slow explanation", last_line(slowly(["explain", "-"], whole)), (0, b"accepted: 2 operations, 1 puts\n", line))
     lines = b'{"client":1,"get":"k","value":null}\n{"client":2,"get":"k","value":null}\n'
-    status, out, told = slowly(["import", "-", os.devnull], lines)
+    status, out, written = slowly(["import", "-", os.devnull], lines)
     check("a slow import", (status, out), (0, b"client 0 1\nclient 1 2\nimported: 2 operations, 2 clients\n"))
-    check("the lines of a slow import", (b"\r\x1b[Kcopying: 2 lines, 72 bytes" in told, told.endswith(b"\r\x1b[K")), (True, True))
+    check("the lines of a slow import", (b"\r\x1b[Kcopying: 2 lines, 72 bytes" in written, written.endswith(b"\r\x1b[K")), (True, True))
     waits = b"waiting for a trace on standard input\r\n"
     check("no words on a terminal", no_words(), (waits, 2, b"faulty: cut at 0\n"))
     check("no words by a pipe", last_line(slowly([], whole)), (0, b"accepted: 2 operations, 1 puts\n", line))

@@ -113,29 +113,29 @@ def wait_until(holds, what):
 
 def in_step(primary, replica):
     """Waits until the replica has everything that the primary has now."""
-    asked, told = Connection(primary), Connection(replica)
-    offset = int(asked.information("replication")["master_repl_offset"])
+    to_primary, to_replica = Connection(primary), Connection(replica)
+    offset = int(to_primary.information("replication")["master_repl_offset"])
 
     def has_all():
-        state = told.information("replication")
+        state = to_replica.information("replication")
         return state.get("master_link_status") == "up" and int(state["slave_repl_offset"]) >= offset
 
     wait_until(has_all, "the replica is in step")
-    asked.close()
-    told.close()
+    to_primary.close()
+    to_replica.close()
 
 
-def side_by_side(*works):
+def side_by_side(*functions):
     """Runs the functions in parallel, each on its own thread. If some fail, raises the first failure."""
     failures = []
 
-    def done(work):
+    def call(function):
         try:
-            work()
+            function()
         except Exception as failure:  # (raised below, by the thread that waits)
             failures.append(failure)
 
-    threads = [threading.Thread(target=done, args=(work,)) for work in works]
+    threads = [threading.Thread(target=call, args=(function,)) for function in functions]
     for thread in threads:
         thread.start()
     for thread in threads:

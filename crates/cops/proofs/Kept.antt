@@ -12,7 +12,7 @@ use Rattle.cops_audit_commands.specs.declared.audit.StreamFault.{StreamFault}
 use Rattle.cops_audit_commands.specs.declared.explain.Explained.{Explained}
 use Rattle.cops_audit_commands.specs.Convergent.{EncodesConvergent}
 use Rattle.cops_audit_commands.specs.Explain.{PictureSays, WritesExplained}
-use Rattle.cops.specs.Status.{Draws, Explains, Gains, HasAnswered, Imports, ReportsNoTrace}
+use Rattle.cops.specs.Status.{Draws, Explains, Gains, HasAnswered, Imports, IsNoTraceText}
 
 kept_text : (old mid new : Option (List ℕ)) (bs : List ℕ) → Appends old mid bs → Keeps mid new → Appends old new bs
 kept_text None mid new bs gained kept = tt
@@ -29,7 +29,7 @@ imported (Some bytes) names operations made_old mid made_new old new is_import k
   names = names;
   operations = operations;
   is_import = record {
-    tolds = is_import.tolds;
+    given = is_import.given;
     report = is_import.report;
     names_are = is_import.names_are;
     counted = is_import.counted;
@@ -40,8 +40,8 @@ imported (Some bytes) names operations made_old mid made_new old new is_import k
 }
 
 -- bytes that are no trace's text, for a job that makes nothing
-pub explained : (known : Option (List ℕ)) (made_old made_new : Option (List ℕ)) → IfSome known ReportsNoTrace → made_new ≡ made_old
-    → IfSome known (λ bytes. ReportsNoTrace bytes × (made_new ≡ made_old))
+pub explained : (known : Option (List ℕ)) (made_old made_new : Option (List ℕ)) → IfSome known IsNoTraceText → made_new ≡ made_old
+    → IfSome known (λ bytes. IsNoTraceText bytes × (made_new ≡ made_old))
 explained None made_old made_new none same = tt
 explained (Some bytes) made_old made_new none same = (none, same)
 

@@ -39,16 +39,16 @@ use Rattle.cops_run_command.specs.Running.{EndsWell as HasRun}
 use Rattle.cops_serve.specs.Serving.{IsServed}
 
 -- the bytes are a trace's text
-abbrev pub ReportsTrace : List ℕ → Type 0
-ReportsTrace bytes = (t : ATrace) × Says bytes (Ok t)
+abbrev pub IsTraceText : List ℕ → Type 0
+IsTraceText bytes = (t : ATrace) × Says bytes (Ok t)
 
 -- the bytes are no trace's text, because of a fault
-abbrev pub ReportsNoTrace : List ℕ → Type 0
-ReportsNoTrace bytes = (e : TraceFault) × Says bytes (Err e)
+abbrev pub IsNoTraceText : List ℕ → Type 0
+IsNoTraceText bytes = (e : TraceFault) × Says bytes (Err e)
 
 -- the bytes are no trace's text, because of a fault that is no cut
-abbrev pub ReportsOtherFault : List ℕ → Type 0
-ReportsOtherFault bytes = (e : TraceFault) × ((offset : ℕ) → e ≢ Cut offset) × Says bytes (Err e)
+abbrev pub HasOtherFault : List ℕ → Type 0
+HasOtherFault bytes = (e : TraceFault) × ((offset : ℕ) → e ≢ Cut offset) × Says bytes (Err e)
 
 -- the bytes of a picture, none where there is no picture
 abbrev pub drawn_text : Option (Vec ℕ) → List ℕ
@@ -118,7 +118,7 @@ EndsWell (Audit trace workers) bytes made_old made_new old new = EncodesConverge
 EndsWell (SoFar trace) bytes made_old made_new old new = IsSoundSoFar bytes × WritesSoFar bytes answer.Accepted old new × (made_new ≡ made_old)
 EndsWell (Explain trace faults picture) bytes made_old made_new old new =
     EncodesConvergent bytes × Explains (is_some picture) faults bytes answer.Accepted made_old made_new old new
-EndsWell (Show trace) bytes made_old made_new old new = ReportsTrace bytes × Shows bytes (number Accepted) old new × (made_new ≡ made_old)
+EndsWell (Show trace) bytes made_old made_new old new = IsTraceText bytes × Shows bytes (number Accepted) old new × (made_new ≡ made_old)
 EndsWell (Import lines trace) bytes made_old made_new old new = Imports bytes made_old made_new old new
 EndsWell (Convert trace made) bytes made_old made_new old new = HasConverted bytes made_old made_new old new
 EndsWell (Run scenario trace) bytes made_old made_new old new = HasRun bytes made_old made_new old new
@@ -135,11 +135,11 @@ EndsRefused job bytes made_old made_new old new = ⊥
 -- What holds where a job ends as faulty: the bytes are no trace's text, or no scenario's, or one of their lines is wrong; a cut is no fault for a
 -- verdict so far. No trace is written whole.
 abbrev pub EndsFaulty : Job → List ℕ → Option (List ℕ) → Option (List ℕ) → Option (List ℕ) → Option (List ℕ) → Type 0
-EndsFaulty (Audit trace workers) bytes made_old made_new old new = ReportsNoTrace bytes × Writes bytes answer.Faulty old new × (made_new ≡ made_old)
-EndsFaulty (SoFar trace) bytes made_old made_new old new = ReportsOtherFault bytes × WritesSoFar bytes answer.Faulty old new × (made_new ≡ made_old)
+EndsFaulty (Audit trace workers) bytes made_old made_new old new = IsNoTraceText bytes × Writes bytes answer.Faulty old new × (made_new ≡ made_old)
+EndsFaulty (SoFar trace) bytes made_old made_new old new = HasOtherFault bytes × WritesSoFar bytes answer.Faulty old new × (made_new ≡ made_old)
 EndsFaulty (Explain trace faults picture) bytes made_old made_new old new =
-    ReportsNoTrace bytes × (made_new ≡ made_old)
-EndsFaulty (Show trace) bytes made_old made_new old new = ReportsNoTrace bytes × Shows bytes (number Faulty) old new × (made_new ≡ made_old)
+    IsNoTraceText bytes × (made_new ≡ made_old)
+EndsFaulty (Show trace) bytes made_old made_new old new = IsNoTraceText bytes × Shows bytes (number Faulty) old new × (made_new ≡ made_old)
 EndsFaulty (Import lines trace) bytes made_old made_new old new = StopsAtLine bytes made_old made_new old new
 EndsFaulty (Convert trace made) bytes made_old made_new old new = IsUnconverted bytes made_old made_new old new
 EndsFaulty (Run scenario trace) bytes made_old made_new old new = IsNoScenario bytes × Keeps made_old made_new

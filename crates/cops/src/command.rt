@@ -15,7 +15,7 @@ ghost use Rattle.cops_scenario.specs.File.{IsNoScenario};
 ghost use Rattle.cops_command.specs.Status.{number, number as status_number};
 ghost use Rattle.cops_command.specs.declared.status.Status.TheVariants.{Accepted, Failed, Faulty, NoMemory, Refused};
 ghost use Rattle.cops_run_command.specs.Running.{EndsWell as HasRun};
-ghost use Rattle.cops.specs.Status.{EndsFaulty, EndsRefused, EndsWell, Explains, HasAnswered, HasConverted, HasServed, Imports, IsFaultyAnswer, IsUnconverted, MayWork, PrintsLine, StopsAtLine, ReportsNoTrace, ReportsOtherFault, ReportsTrace, drawn_text};
+ghost use Rattle.cops.specs.Status.{EndsFaulty, EndsRefused, EndsWell, Explains, HasAnswered, HasConverted, HasServed, Imports, IsFaultyAnswer, IsUnconverted, MayWork, PrintsLine, StopsAtLine, IsNoTraceText, HasOtherFault, IsTraceText, drawn_text};
 
 use crate::output::Output;
 use cops_audit_commands::{
@@ -153,7 +153,7 @@ where
     ensures refused { result.status ≡ number Refused → IfSome (I.remaining (inner input.old)) (λ bytes.
         Writes bytes Answer.Refused (W.contents (inner outputs.out)) (W.contents (inner result.outputs.out))) }
     ensures faulty { result.status ≡ number Faulty → (1 ≤ workers) → (workers ≤ MAX_WORKERS) → IfSome (I.remaining (inner input.old)) (λ bytes.
-        ReportsNoTrace bytes × Writes bytes Answer.Faulty (W.contents (inner outputs.out)) (W.contents (inner result.outputs.out))) }
+        IsNoTraceText bytes × Writes bytes Answer.Faulty (W.contents (inner outputs.out)) (W.contents (inner result.outputs.out))) }
     ensures made { result.outputs.made ≡ outputs.made }
 {
     let Outputs {
@@ -184,7 +184,7 @@ where
         × WritesSoFar bytes Answer.Accepted (W.contents (inner outputs.out)) (W.contents (inner result.outputs.out))) }
     ensures refused { result.status ≡ number Refused → IfSome (I.remaining (inner input.old)) (λ bytes.
         WritesSoFar bytes Answer.Refused (W.contents (inner outputs.out)) (W.contents (inner result.outputs.out))) }
-    ensures faulty { result.status ≡ number Faulty → IfSome (I.remaining (inner input.old)) (λ bytes. ReportsOtherFault bytes
+    ensures faulty { result.status ≡ number Faulty → IfSome (I.remaining (inner input.old)) (λ bytes. HasOtherFault bytes
         × WritesSoFar bytes Answer.Faulty (W.contents (inner outputs.out)) (W.contents (inner result.outputs.out))) }
     ensures made { result.outputs.made ≡ outputs.made }
 {
@@ -219,7 +219,7 @@ where
         (T.contents (inner outputs.made)) (T.contents (inner result.outputs.made)) (W.contents (inner outputs.out)) (W.contents (inner result.outputs.out))) }
     ensures refused { result.status ≡ number Refused → IfSome (I.remaining (inner input.old)) (λ bytes. Explains is_drawn faults bytes Answer.Refused
         (T.contents (inner outputs.made)) (T.contents (inner result.outputs.made)) (W.contents (inner outputs.out)) (W.contents (inner result.outputs.out))) }
-    ensures faulty { result.status ≡ number Faulty → IfSome (I.remaining (inner input.old)) ReportsNoTrace }
+    ensures faulty { result.status ≡ number Faulty → IfSome (I.remaining (inner input.old)) IsNoTraceText }
     ensures undrawn { result.status ≡ number Faulty → T.contents (inner result.outputs.made) ≡ T.contents (inner outputs.made) }
 {
     let Outputs {
@@ -295,10 +295,10 @@ where
     I: Read,
     W: Write,
     E: Write,
-    ensures shown { result.status ≡ number Accepted → IfSome (I.remaining (inner input.old)) (λ bytes. ReportsTrace bytes
+    ensures shown { result.status ≡ number Accepted → IfSome (I.remaining (inner input.old)) (λ bytes. IsTraceText bytes
         × Shows bytes (number Accepted) (W.contents (inner outputs.out)) (W.contents (inner result.outputs.out))) }
     ensures refused { result.status ≡ number Refused → IfSome (I.remaining (inner input.old)) (λ _. ⊥) }
-    ensures faulty { result.status ≡ number Faulty → IfSome (I.remaining (inner input.old)) (λ bytes. ReportsNoTrace bytes
+    ensures faulty { result.status ≡ number Faulty → IfSome (I.remaining (inner input.old)) (λ bytes. IsNoTraceText bytes
         × Shows bytes (number Faulty) (W.contents (inner outputs.out)) (W.contents (inner result.outputs.out))) }
     ensures made { result.outputs.made ≡ outputs.made }
 {

@@ -15,7 +15,7 @@ mod progress;
 use crate::command::{Ended, Outputs, command};
 use crate::input::{Source, plain_output};
 use crate::lines::{NoLines, copied, created, is_plain, rewound};
-use crate::output::{DraftFile, MadeFile, Printed, Rebuilt};
+use crate::output::{DraftFile, MadeFile, Printed, RecreatedFile};
 use crate::progress::{Cleared, Reading, Watched, begun, remove};
 use cops_command::Status;
 use cops_command_line::{Job, line};
@@ -55,7 +55,7 @@ fn failed<R: Eprint>(rt: &R, why: &str, status: Status) -> u8
 enum Target<'a> {
     Nothing,
     Standard,
-    File(&'a str, Rebuilt),
+    File(&'a str, RecreatedFile),
 }
 
 impl<'a> Target<'a> {
@@ -65,7 +65,7 @@ impl<'a> Target<'a> {
             None => Ok(Target::Nothing),
             Some("-") => Ok(Target::Standard),
             Some(name) => {
-                let file = Rebuilt::open(rt, name)?;
+                let file = RecreatedFile::open(rt, name)?;
                 Ok(Target::File(name, file))
             }
         }
@@ -73,7 +73,7 @@ impl<'a> Target<'a> {
 }
 
 /// Removes the file with this name, if it was created and nothing was written to it.
-fn close<R: Files>(rt: &R, name: &str, file: Rebuilt) {
+fn close<R: Files>(rt: &R, name: &str, file: RecreatedFile) {
     if file.is_idle() {
         let _ = fs::remove_file(rt, name);
     }

@@ -26,17 +26,17 @@ pub trait Output {
 
 /// A file whose old bytes are dropped at the first write or flush, and kept where neither happens.
 #[derive(Drop)]
-pub struct Rebuilt {
+pub struct RecreatedFile {
     file: File,
     is_begun: bool,
     is_new: bool,
 }
 
-impl Rebuilt {
+impl RecreatedFile {
     /// Opens the file with this name, and creates an empty one where there is none.
-    pub fn open<R: Files<File = File>>(rt: &R, name: &str) -> io::Result<Rebuilt> {
+    pub fn open<R: Files<File = File>>(rt: &R, name: &str) -> io::Result<RecreatedFile> {
         if let Ok(file) = File::create_new(rt, name) {
-            return Ok(Rebuilt {
+            return Ok(RecreatedFile {
                 file,
                 is_begun: false,
                 is_new: true,
@@ -45,7 +45,7 @@ impl Rebuilt {
         let mut options = OpenOptions::new();
         options.write(true).create(true);
         let file = options.open(rt, name)?;
-        Ok(Rebuilt {
+        Ok(RecreatedFile {
             file,
             is_begun: false,
             is_new: false,
@@ -76,7 +76,7 @@ impl Rebuilt {
     }
 }
 
-impl Write for Rebuilt {
+impl Write for RecreatedFile {
     fn write(&mut self, buf: &[u8]) -> io::Result<usize> {
         self.begin()?;
         self.file.write(buf)
@@ -92,13 +92,13 @@ impl Write for Rebuilt {
 #[derive(Drop)]
 pub struct DraftFile {
     waiting: BufWriter<File>,
-    output: Rebuilt,
+    output: RecreatedFile,
     is_copy_at_fault: bool,
 }
 
 impl DraftFile {
     /// An empty draft of that output. What is written is kept in `waiting`, an empty file that can be read.
-    pub fn new(waiting: BufWriter<File>, output: Rebuilt) -> DraftFile {
+    pub fn new(waiting: BufWriter<File>, output: RecreatedFile) -> DraftFile {
         DraftFile {
             waiting,
             output,
@@ -107,7 +107,7 @@ impl DraftFile {
     }
 
     /// The output, as it is.
-    pub fn into_output(self) -> Rebuilt {
+    pub fn into_output(self) -> RecreatedFile {
         self.output
     }
 
@@ -156,7 +156,7 @@ pub enum MadeFile<'r, R: Print> {
     /// Standard output, with a buffer.
     Gathered(BufWriter<Printer<'r, R>>),
     /// A file.
-    File(Rebuilt),
+    File(RecreatedFile),
     /// A file that is written only when all is there.
     DraftFile(DraftFile),
 }

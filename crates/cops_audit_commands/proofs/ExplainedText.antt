@@ -1,6 +1,6 @@
 -- What is written, for what was read and its answer.
-use Rattle.std.proofs.Common.{◌≡◌, ℕ, List, ◌++◌, take, drop, Option, Some, None, Result, Ok, Err, sym, ap, subst, ◌∙◌, inl, inr}
-use Rattle.std.specs.Prelude.{IfSome, IfOk, IsErrOf}
+use Rattle.std.proofs.Common.{◌≡◌, ℕ, List, ◌++◌, take, drop, Option, Some, None, Result, Ok, Err, sym, subst, ◌∙◌, inl, inr}
+use Rattle.std.specs.Prelude.{IfSome, IfOk}
 use Rattle.std.specs.Io.KnownBytes.{Appends}
 use Rattle.std.proofs.lemmas.List.{take-append-drop}
 use Rattle.cops_types.specs.Convergence.{IsCausallyConvergent}
@@ -9,10 +9,7 @@ use Rattle.cops_audit.specs.Verdicts.{Accepts, IsVerdict}
 use Rattle.cops_audit.proofs.Consequences.{convergent}
 use Rattle.cops_audit.specs.declared.verdict.Verdict.{Verdict}
 use Rattle.cops_audit.specs.declared.verdict.Verdict.TheVariants as verdict
-use Rattle.cops_trace.specs.declared.fault.TraceFault.{TraceFault}
-use Rattle.cops_trace.specs.declared.fault.TraceFault.TheVariants.{Memory, ReadFailed}
 use Rattle.cops_trace.specs.Text.{sessions_of}
-use Rattle.cops_trace.specs.Answer.{HasFault, Agrees}
 use Rattle.cops_audit_commands.specs.declared.audit.Answer.{Answer}
 use Rattle.cops_audit_commands.specs.declared.audit.Answer.TheVariants.{Accepted}
 use Rattle.cops_audit_commands.specs.Audit.{AuditSays, answer_of}
@@ -61,17 +58,3 @@ pub reported_of_bytes : {T E : Type 0} (Agreeing : List ℕ → Type 0) (Saying 
 reported_of_bytes Agreeing Saying None (Ok x) agrees says = tt
 reported_of_bytes Agreeing Saying (Some u) (Ok x) agrees says = says u agrees
 reported_of_bytes Agreeing Saying a (Err e) agrees says = tt
-
--- a fault of the text is reported by its line
-pub fault_reported : (bytes : List ℕ) (e : TraceFault) → (e ≡ Memory → ⊥) → (e ≡ ReadFailed → ⊥) → Agrees bytes (Err e) → HasFault bytes e
-fault_reported bytes e m r (inl h) = absurd (m h)
-fault_reported bytes e m r (inr (inl h)) = absurd (r h)
-fault_reported bytes e m r (inr (inr h)) = h
-
--- a result with an answer is no error
-pub answer_no_error : {T E : Type 0} (x : T) (e : E) → IsErrOf {T = T} {E = E} (Ok x) e → ⊥
-answer_no_error x e h = cc
-
--- an error is the same error for another type of answer
-pub error_again : {T U E : Type 0} (x e : E) → IsErrOf {T = T} {E = E} (Err x) e → IsErrOf {T = U} {E = E} (Err x) e
-error_again x e h = let same : x ≡ e = cc in ap (λ y. Err y) same

@@ -69,12 +69,6 @@ pub reported_faulty : {E : Type 0} (bytes : List ℕ) (e : TraceFault) (result :
 reported_faulty bytes e (Err x) fault is = tt
 reported_faulty bytes e (Ok reported) fault is = inr (e, fault, is.0, is.1)
 
--- the report of a whole trace
-pub reported_trace : {E : Type 0} (bytes : List ℕ) (taken : SinkTaken Fed) (result : Result (Answer × Vec ℕ Global) E) → (takes : TakesFrom WasFed bytes taken) → taken.cut ≡ None
-    → IfOk result (λ reported. IsReported takes.trace reported.0 reported.1.items) → IfOk result (λ reported. AuditSays bytes reported.0 reported.1.items)
-reported_trace bytes taken (Err e) takes place is = tt
-reported_trace bytes taken (Ok reported) takes place is = inl (takes.trace, subst (BeginsAs bytes takes.trace) place takes.begins, is)
-
 -- a fault that was met in what was fed
 pub fed_fault : (bytes : List ℕ) (e : TraceFault) → (e ≡ Memory → ⊥) → (e ≡ ReadFailed → ⊥) → AgreesInto WasFed bytes (Err e) → HasFault bytes e
 fed_fault bytes e m r (inl h) = absurd (m h)

@@ -3,7 +3,7 @@ ghost use Rattle.std.specs.Prelude.{◌≡◌, ◌++◌, ◌⊎◌, ◌<◌, ◌
 ghost use Rattle.std.specs.Io.KnownBytes.{Appends};
 ghost use Rattle.cops_types.specs.Failures.{Failed};
 ghost use Rattle.cops_types.specs.Counted.{failures, inner};
-ghost use Rattle.cops_trace.specs.Answer.{Agrees};
+ghost use Rattle.cops_trace.specs.Answer.{AgreesInto};
 ghost use Rattle.cops_wire.specs.declared.message.Message.{Message as AMessage};
 ghost use Rattle.cops_command.specs.Status.{number};
 ghost use Rattle.cops_command.specs.declared.status.Status.TheVariants.{Failed as EndsFailed};
@@ -12,8 +12,8 @@ ghost use Rattle.cops_audit_commands.specs.NextLine.{AppendsNext, named};
 ghost use Rattle.cops_audit_commands.specs.Show.{AreAllBefore, AreReadIn, HasFirst, Shows, AreShown, end_of, line_of, lines_of};
 
 use cops_command::{PIECE, Status, failed, print, read_all};
-use cops_trace::{Trace, TraceFault, fault_line, read_trace};
-use cops_types::{Counted, Format, Memory, write_text};
+use cops_trace::{Sink, SinkTaken, TraceFault, fault_line, read_into};
+use cops_types::{Counted, Format, Memory, OpView, write_text};
 use cops_wire::{Decoded, Message, WireFault, decode, decode_in, show};
 use std::alloc::Global;
 use std::io::{Read, Write};
@@ -56,19 +56,44 @@ pub fn show_stream<R: Read, W: Write, E: Write>(
     Ok(print(&text, Status::Faulty, out, errors))
 }
 
-/// The first fault of these bytes, or `None` where they are a trace's text.
+/// A consumer of a trace that keeps nothing of it.
+#[derive(Drop)]
+struct Nothing;
+
+impl Sink for Nothing {
+    ghost took = { λ _ _. Unit {0} };
+
+    fn begin(_format: Format, _alloc: Global, _clients: u16) -> Result<Nothing, Memory> {
+        Ok(Nothing)
+    }
+
+    fn take(&mut self, _client: u16, _op: &OpView<'_>) -> Result<(), Memory> {
+        Ok(())
+    }
+
+    fn looks_ahead(&self) -> bool {
+        false
+    }
+
+    fn prefetch(&mut self, _coming: &[OpView<'_>]) {}
+}
+
+/// The first fault of these bytes, or `None` where they are a trace's text. Nothing of the trace is kept.
 fn first_fault(alloc: Global, bytes: &[u8]) -> Result<Option<TraceFault>, Memory>
     ensures { IfOk result (HasFirst bytes.now) }
 {
-    fault_in(read_trace(alloc, &mut Counted::new(bytes)))
+    fault_in(read_into::<Nothing, &[u8]>(alloc, &mut Counted::new(bytes)))
 }
 
-/// The fault of what was read, or `None` where a trace was read.
-fn fault_in(read: Result<Trace, TraceFault>) -> Result<Option<TraceFault>, Memory>
-    ensures { (bytes : List ℕ) → Agrees bytes read → IfOk result (HasFirst bytes) }
+/// The fault of what was read, or `None` where a whole trace was read.
+fn fault_in(read: Result<SinkTaken<Nothing>, TraceFault>) -> Result<Option<TraceFault>, Memory>
+    ensures { (bytes : List ℕ) → AgreesInto (λ _ _. Unit {0}) bytes read → IfOk result (HasFirst bytes) }
 {
     match read {
-        Ok(_trace) => Ok(None),
+        Ok(taken) => match taken.cut {
+            None => Ok(None),
+            Some(offset) => Ok(Some(TraceFault::Cut { offset })),
+        },
         Err(TraceFault::Memory) | Err(TraceFault::ReadFailed) => Err(Memory),
         Err(fault) => Ok(Some(fault)),
     }

@@ -34,7 +34,7 @@ fn is_reported(alloc: Global, history: &History, text: &str) -> Result<bool, Mem
 }
 
 /// Whether the report of the verdict on a history is this text, also where the history was fed operation by operation.
-fn is_reported(alloc: Global, entries: &[(u16, TestOp)], text: &str) -> Result<bool, Fail> {
+fn both_report(alloc: Global, entries: &[(u16, TestOp)], text: &str) -> Result<bool, Fail> {
     let history = history(alloc, 2, entries)?;
     let is_reported = is_reported(alloc, &history, text);
     drop(history);
@@ -50,16 +50,16 @@ fn is_reported(alloc: Global, entries: &[(u16, TestOp)], text: &str) -> Result<b
 #[test]
 fn reports(rt: HostRuntime) -> Result<(), Fail> {
     let accepted = "accepted: 4 operations, 3 puts\n";
-    assert!(rt; is_reported(rt.alloc(), &STALE[..4], accepted)?);
+    assert!(rt; both_report(rt.alloc(), &STALE[..4], accepted)?);
     let refused =
         "refused: 5 operations, 3 puts, 1 faults\nstale (1,1) returned 1.0, newer (0,1) at 2.0, chain (0,1) (0,2) (1,0) (1,1)\n";
-    assert!(rt; is_reported(rt.alloc(), &STALE, refused)?);
+    assert!(rt; both_report(rt.alloc(), &STALE, refused)?);
     let other_value = [
         (0, TestOp::Put(b'x', 1, 1, 0)),
         (1, TestOp::Got(b'x', 2, 1, 0)),
     ];
     let no_source = "refused: 2 operations, 1 puts, 1 faults\nno source (1,0) at 1.0\n";
-    assert!(rt; is_reported(rt.alloc(), &other_value, no_source)?);
+    assert!(rt; both_report(rt.alloc(), &other_value, no_source)?);
     Ok(())
 }
 
@@ -69,17 +69,17 @@ fn reports_of_deletions(rt: HostRuntime) -> Result<(), Fail> {
     let mut entries = STALE_BELOW_A_DELETION;
     let stale =
         "refused: 5 operations, 3 puts, 1 faults\nstale (1,1) returned 1.0, newer (0,1) at 2.0, chain (0,1) (0,2) (1,0) (1,1)\n";
-    assert!(rt; is_reported(rt.alloc(), &entries, stale)?);
+    assert!(rt; both_report(rt.alloc(), &entries, stale)?);
     let accepted = "accepted: 5 operations, 3 puts\n";
     entries[4] = (1, TestOp::Gone(b'x', 2, 0));
-    assert!(rt; is_reported(rt.alloc(), &entries, accepted)?);
+    assert!(rt; both_report(rt.alloc(), &entries, accepted)?);
     let no_source = "refused: 5 operations, 3 puts, 1 faults\nno source (1,1) at 1.0\n";
     entries[4] = (1, TestOp::Gone(b'x', 1, 0));
-    assert!(rt; is_reported(rt.alloc(), &entries, no_source)?);
+    assert!(rt; both_report(rt.alloc(), &entries, no_source)?);
     let missed =
         "refused: 5 operations, 3 puts, 1 faults\nstale (1,1) returned nothing, newer (0,1) at 2.0, chain (0,1) (0,2) (1,0) (1,1)\n";
     entries[4] = (1, TestOp::Missed(b'x'));
-    assert!(rt; is_reported(rt.alloc(), &entries, missed)?);
+    assert!(rt; both_report(rt.alloc(), &entries, missed)?);
     Ok(())
 }
 

@@ -95,8 +95,8 @@ fn a_failed_device_is_reported(rt: HostRuntime) -> Result<(), Fail> {
         let mut out = Counted::new(device);
         let mut errors = Counted::new(Vec::new(rt.alloc()));
         let got = show_stream(rt.alloc(), &mut reader, &mut out, &mut errors)?;
-        assert_eq!(rt; got, 4, "{told}");
-        assert_eq!(rt; out.into_inner().into_inner().len(), 0, "{told}");
+        assert_eq!(rt; got, 4, "{reported}");
+        assert_eq!(rt; out.into_inner().into_inner().len(), 0, "{reported}");
         assert_eq!(rt; errors.into_inner().as_slice(), reported.as_bytes());
     }
     Ok(())

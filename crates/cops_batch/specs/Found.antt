@@ -2,7 +2,7 @@
 use Rattle.cops_types.specs.Faults.{HasNoSource, IsNotAbove, IsStale}
 use Rattle.cops_types.specs.VersionOrder.{IsDoubled}
 use Rattle.cops_audit.specs.Names.{ListsAmong}
-use Rattle.cops_audit.specs.Summarized.{Noted}
+use Rattle.cops_audit.specs.Summarized.{Summarized}
 use Rattle.cops_audit.specs.Sorted.{Sorted}
 use Rattle.cops_batch.specs.Pieces.{names_of}
 use Rattle.cops_batch.specs.declared.pieces.Piece.{Piece}
@@ -17,5 +17,5 @@ pub record IsSearched (puts : Sorted) (p : Piece) : Type 0 where
   pub not_above : ListsAmong (λ f. f.op) (λ f. IsNotAbove puts.sessions f.op f.earlier) (names_of puts.names p) p.not_above.items
 
 -- the piece lists its stale gets
-abbrev pub HasStale : Noted → Piece → Type 0
+abbrev pub HasStale : Summarized → Piece → Type 0
 HasStale tables p = ListsAmong (λ f. f.op) (λ f. IsStale tables.sessions f.op f.newer) (names_of tables.names p) p.stale.items

@@ -13,14 +13,14 @@ use Rattle.cops_clients.specs.declared.clients.ClientTask.{ClientTask}
 abbrev pub IsClientOf : Setting → Client → Type 0
 IsClientOf s c = (c.number < length s.homes) × (c.dc ≡ home s c.number) × (c.dc < s.place.dcs) × (c.share.holder ≡ OfClient c.number)
 
--- each of the setting's clients has a job, in order
-abbrev pub AreJobsOf : Setting → List ClientTask → Type 0
-AreJobsOf s jobs = (map (λ (j : ClientTask). j.client.number) jobs ≡ numbers (length s.homes)) × All (λ (j : ClientTask). IsClientOf s j.client) jobs
+-- each of the setting's clients has a task, in order
+abbrev pub AreTasksOf : Setting → List ClientTask → Type 0
+AreTasksOf s tasks = (map (λ (j : ClientTask). j.client.number) tasks ≡ numbers (length s.homes)) × All (λ (j : ClientTask). IsClientOf s j.client) tasks
 
 -- the receiver of each data centre of the setting, in order, with a share of its own
 abbrev pub AreReceiversOf : Setting → List Receiver → Type 0
 AreReceiversOf s receivers = (map (λ (r : Receiver). r.dc) receivers ≡ numbers s.place.dcs) × All (λ (r : Receiver). r.share.holder ≡ OfReceiver r.dc) receivers
 
--- the clients of these jobs, and then these receivers
+-- the clients of these tasks, and then these receivers
 abbrev pub callers : List ClientTask → List Receiver → List Holder
-callers jobs receivers = map (λ (j : ClientTask). OfClient j.client.number) jobs ++ map (λ (r : Receiver). OfReceiver r.dc) receivers
+callers tasks receivers = map (λ (j : ClientTask). OfClient j.client.number) tasks ++ map (λ (r : Receiver). OfReceiver r.dc) receivers

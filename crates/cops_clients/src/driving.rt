@@ -1,13 +1,13 @@
 //! Starting the threads of a run, and joining them: clients, then senders, then receivers.
-ghost use Rattle.std.specs.Prelude.{◌≡◌, ◌⊎◌, ◌+◌, ℕ, [], ◌++◌, All, Err, IfOk, IsErrOf, IsTrue, OnOk, length, map};
+ghost use Rattle.std.specs.Prelude.{◌≡◌, ◌⊎◌, ◌+◌, [], ◌++◌, All, IfOk, IsErrOf, IsTrue, OnOk, length, map};
 ghost use Rattle.cops_cluster.specs.declared.share.Holder.TheVariants.{Client as OfClient, Receiver as OfReceiver};
 ghost use Rattle.cops_clients.specs.Gates.{MayHold, MayHoldIn, MayHoldReceiving};
 ghost use Rattle.cops_cluster.specs.Close.{holders};
-ghost use Rattle.cops_clients.specs.Callers.{AreJobsOf, AreReceiversOf, callers};
+ghost use Rattle.cops_clients.specs.Callers.{AreTasksOf, AreReceiversOf, callers};
 
 use crate::clients::{ClientTask, work};
 use crate::ends::{End, Owed, Returned};
-use crate::fault::RunFault;
+use crate::fault::{StartFault, ThreadFault};
 use crate::gathering::Gathered;
 use crate::replicas::{receive, send};
 use crate::state::RunState;
@@ -35,26 +35,24 @@ pub(crate) fn drive<R: Threads + Wait + Sync, G: Gate>(
     setting: &Setting,
     state: &RunState,
     gate: &G,
-    jobs: Vec<ClientTask<'_>>,
+    tasks: Vec<ClientTask<'_>>,
     replicas: Replicas,
-) -> Result<Gathered, RunFault>
+) -> Result<Gathered, ThreadFault>
     requires place { state.now.cluster.place ≡ setting.now.place }
-    requires jobs { AreJobsOf setting.now jobs.items }
+    requires tasks { AreTasksOf setting.now tasks.items }
     requires receivers { AreReceiversOf setting.now replicas.receivers.items }
-    ensures shares { IfOk result (λ g. holders g.shares.items ≡ callers jobs.entry.items replicas.receivers.items) }
-    ensures held { IsErrOf result RunFault.Held → MayHold setting.now (G.may_hold gate.now) }
-    ensures unwritten { (n : ℕ) → result ≡ Err (RunFault.WriteFailed n) → ⊥ }
+    ensures shares { IfOk result (λ g. holders g.shares.items ≡ callers tasks.entry.items replicas.receivers.items) }
+    ensures held { IsErrOf result ThreadFault.Held → MayHold setting.now (G.may_hold gate.now) }
 {
     thread::scope(
         thread::scope_env(),
         rt,
-        |scope| -> Result<Gathered, RunFault>
+        |scope| -> Result<Gathered, ThreadFault>
             requires place { state.now.cluster.place ≡ setting.now.place }
-            requires jobs { AreJobsOf setting.now jobs.items }
+            requires tasks { AreTasksOf setting.now tasks.items }
             requires receivers { AreReceiversOf setting.now replicas.receivers.items }
-            ensures shares { IfOk result (λ g. holders g.shares.items ≡ callers jobs.entry.items replicas.receivers.items) }
-            ensures held { IsErrOf result RunFault.Held → MayHold setting.entry.now (G.may_hold gate.entry.now) }
-            ensures unwritten { (n : ℕ) → result ≡ Err (RunFault.WriteFailed n) → ⊥ }
+            ensures shares { IfOk result (λ g. holders g.shares.items ≡ callers tasks.entry.items replicas.receivers.items) }
+            ensures held { IsErrOf result ThreadFault.Held → MayHold setting.entry.now (G.may_hold gate.entry.now) }
         {
             let mut started = Started {
                 clients: Vec::new(alloc),
@@ -67,7 +65,7 @@ pub(crate) fn drive<R: Threads + Wait + Sync, G: Gate>(
                 setting,
                 state,
                 gate,
-                jobs,
+                tasks,
                 replicas,
                 &mut started,
             );
@@ -77,7 +75,8 @@ pub(crate) fn drive<R: Threads + Wait + Sync, G: Gate>(
             let gathered = joined(rt, alloc, setting, state, gate, started);
             match all {
                 Ok(()) => gathered.whole(),
-                Err(fault) => Err(fault),
+                Err(StartFault::Memory) => Err(ThreadFault::Memory),
+                Err(StartFault::NoThread) => Err(ThreadFault::NoThread),
             }
         },
     )
@@ -90,20 +89,18 @@ fn start<'s, E, R: Threads + Wait + Sync, G: Gate>(
     setting: &'s Setting,
     state: &'s RunState,
     gate: &'s G,
-    jobs: Vec<ClientTask<'s>>,
+    tasks: Vec<ClientTask<'s>>,
     replicas: Replicas,
     started: &mut Started<G>,
-) -> Result<(), RunFault>
+) -> Result<(), StartFault>
     requires place { state.now.cluster.place ≡ setting.now.place }
-    requires jobs { AreJobsOf setting.now jobs.items }
+    requires tasks { AreTasksOf setting.now tasks.items }
     requires brought { AreReceiversOf setting.now replicas.receivers.items }
     requires clients { started.old.clients.items ≡ [] }
     requires receivers { started.old.receivers.items ≡ [] }
     ensures clients { All (λ (h : _). (h.promise.gate.value ≡ gate.now) × (h.promise.setting.value ≡ setting.now)) started.new.clients.items }
     ensures receivers { All (λ (h : _). (h.promise.gate.value ≡ gate.now) × (h.promise.setting.value ≡ setting.now)) started.new.receivers.items }
-    ensures all { OnOk result (map (λ (h : _). h.promise.owner) started.new.clients.items ++ map (λ (h : _). h.promise.owner) started.new.receivers.items ≡ callers jobs.entry.items replicas.receivers.items) }
-    ensures fault { result ≡ Err RunFault.Held → ⊥ }
-    ensures unwritten { (n : ℕ) → result ≡ Err (RunFault.WriteFailed n) → ⊥ }
+    ensures all { OnOk result (map (λ (h : _). h.promise.owner) started.new.clients.items ++ map (λ (h : _). h.promise.owner) started.new.receivers.items ≡ callers tasks.entry.items replicas.receivers.items) }
 {
     let Replicas { senders, receivers } = replicas;
     match start_receivers(
@@ -122,10 +119,10 @@ fn start<'s, E, R: Threads + Wait + Sync, G: Gate>(
         Ok(()) => {}
         Err(fault) => return Err(fault),
     }
-    start_clients(scope, rt, setting, state, gate, jobs, &mut started.clients)
+    start_clients(scope, rt, setting, state, gate, tasks, &mut started.clients)
 }
 
-/// Joins the clients, then the senders, and then the receivers. After each of the first two steps it sets the stage's
+/// Joins the clients, then the senders, and then the receivers. After each of the first two steps it sets the state's
 /// flag that those threads were joined.
 fn joined<R: Threads, G: Gate>(
     rt: &R,
@@ -161,19 +158,17 @@ fn start_clients<'s, E, R: Threads + Wait + Sync, G: Gate>(
     setting: &'s Setting,
     state: &'s RunState,
     gate: &'s G,
-    jobs: Vec<ClientTask<'s>>,
+    tasks: Vec<ClientTask<'s>>,
     handles: &mut Vec<PromisedHandle<Returned, Owed<G>>>,
-) -> Result<(), RunFault>
+) -> Result<(), StartFault>
     requires place { state.now.cluster.place ≡ setting.now.place }
-    requires jobs { AreJobsOf setting.now jobs.items }
+    requires tasks { AreTasksOf setting.now tasks.items }
     requires none { handles.old.items ≡ [] }
-    ensures all { OnOk result (map (λ (h : _). h.promise.owner) handles.new.items ≡ map (λ j. OfClient j.client.number) jobs.entry.items) }
+    ensures all { OnOk result (map (λ (h : _). h.promise.owner) handles.new.items ≡ map (λ j. OfClient j.client.number) tasks.entry.items) }
     ensures promised { All (λ (h : _). (h.promise.gate.value ≡ gate.now) × (h.promise.setting.value ≡ setting.now)) handles.new.items }
-    ensures fault { result ≡ Err RunFault.Held → ⊥ }
-    ensures unwritten { (n : ℕ) → result ≡ Err (RunFault.WriteFailed n) → ⊥ }
 {
-    for job in jobs {
-        let ClientTask { client, script } = job;
+    for task in tasks {
+        let ClientTask { client, script } = task;
         let started = scope.spawn_with(
             Owed::of(Holder::Client(client.number()), setting, gate),
             move || -> Returned
@@ -182,11 +177,11 @@ fn start_clients<'s, E, R: Threads + Wait + Sync, G: Gate>(
             { work(rt, state, gate, client, script) },
         );
         let Ok(handle) = started else {
-            return Err(RunFault::NoThread);
+            return Err(StartFault::NoThread);
         };
         match handles.push(handle) {
             Ok(()) => {}
-            Err(_) => return Err(RunFault::Memory),
+            Err(_) => return Err(StartFault::Memory),
         }
     }
     Ok(())
@@ -199,17 +194,14 @@ fn start_senders<'s, E, R: Threads + Wait + Sync>(
     state: &'s RunState,
     senders: Vec<Sender>,
     handles: &mut Vec<JoinHandle<bool>>,
-) -> Result<(), RunFault>
-    ensures fault { result ≡ Err RunFault.Held → ⊥ }
-    ensures unwritten { (n : ℕ) → result ≡ Err (RunFault.WriteFailed n) → ⊥ }
-{
+) -> Result<(), StartFault> {
     for sender in senders {
         let Ok(handle) = scope.spawn(move || send(rt, state, sender)) else {
-            return Err(RunFault::NoThread);
+            return Err(StartFault::NoThread);
         };
         match handles.push(handle) {
             Ok(()) => {}
-            Err(_) => return Err(RunFault::Memory),
+            Err(_) => return Err(StartFault::Memory),
         }
     }
     Ok(())
@@ -224,14 +216,12 @@ fn start_receivers<'s, E, R: Threads + Wait + Sync, G: Gate>(
     gate: &'s G,
     receivers: Vec<Receiver>,
     handles: &mut Vec<PromisedHandle<Returned, Owed<G>>>,
-) -> Result<(), RunFault>
+) -> Result<(), StartFault>
     requires place { state.now.cluster.place ≡ setting.now.place }
     requires receivers { AreReceiversOf setting.now receivers.items }
     requires none { handles.old.items ≡ [] }
     ensures all { OnOk result (map (λ (h : _). h.promise.owner) handles.new.items ≡ map (λ r. OfReceiver r.dc) receivers.items) }
     ensures promised { All (λ (h : _). (h.promise.gate.value ≡ gate.now) × (h.promise.setting.value ≡ setting.now)) handles.new.items }
-    ensures fault { result ≡ Err RunFault.Held → ⊥ }
-    ensures unwritten { (n : ℕ) → result ≡ Err (RunFault.WriteFailed n) → ⊥ }
 {
     for receiver in receivers {
         let started = scope.spawn_with(
@@ -242,11 +232,11 @@ fn start_receivers<'s, E, R: Threads + Wait + Sync, G: Gate>(
             { receive(rt, state, gate, receiver) },
         );
         let Ok(handle) = started else {
-            return Err(RunFault::NoThread);
+            return Err(StartFault::NoThread);
         };
         match handles.push(handle) {
             Ok(()) => {}
-            Err(_) => return Err(RunFault::Memory),
+            Err(_) => return Err(StartFault::Memory),
         }
     }
     Ok(())

@@ -1,4 +1,4 @@
-//! Why there is no run.
+//! Why there is no run, and why the threads of a run did not all start, or not all end well.
 use thiserror::Error;
 
 /// Why there is no run. The numbers are the faults' codes. Where several faults apply, the first of `NoThread`, `Held`,
@@ -27,5 +27,27 @@ pub enum RunFault {
     WriteFailed { written: usize },
     /// 5: the system refused to create a thread. The threads that had been created were ended and joined.
     #[error("no thread")]
+    NoThread,
+}
+
+/// Why not all threads of a run started.
+#[derive(Clone, Copy)]
+pub(crate) enum StartFault {
+    /// Out of memory.
+    Memory,
+    /// The system refused to create a thread.
+    NoThread,
+}
+
+/// Why not all threads of a run ended well.
+#[derive(Clone, Copy)]
+pub(crate) enum ThreadFault {
+    /// Out of memory.
+    Memory,
+    /// The gate held a step.
+    Held,
+    /// A sender or a receiver did not finish within its turns.
+    TurnLimit,
+    /// The system refused to create a thread.
     NoThread,
 }

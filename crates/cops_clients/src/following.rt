@@ -10,7 +10,7 @@ use cops_trace::{LiveTrace, Record, Unwritten};
 use std::io::Write;
 use std::sync::Wait;
 
-/// Writes the records of what clients see as they arrive, until the clients are joined, for at most the stage's number
+/// Writes the records of what clients see as they arrive, until the clients are joined, for at most the state's number
 /// of turns.
 pub(crate) fn follow<R: Wait, W: Write>(
     rt: &R,

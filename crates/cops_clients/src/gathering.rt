@@ -1,6 +1,6 @@
 //! What the threads of a run returned.
 use crate::ends::{End, Owed, Returned};
-use crate::fault::RunFault;
+use crate::fault::ThreadFault;
 use cops_cluster::Share;
 use cops_core::Setting;
 use cops_tie::ClientOutcome;
@@ -97,22 +97,21 @@ impl Gathered {
     ///
     /// Errors: `Held` where the gate held a step; then `TurnLimit` where a loop did not finish within its turns; then
     /// `Memory` where there was none for what the threads returned.
-    pub(crate) fn whole(self) -> Result<Gathered, RunFault>
+    pub(crate) fn whole(self) -> Result<Gathered, ThreadFault>
         ensures ok { IfOk result (λ g. g ≡ self) }
         ensures kept { OnOk result (¬ IsTrue self.lost) }
-        ensures held { IsErrOf result RunFault.Held ↔ IsTrue self.held }
-        ensures limit { IsErrOf result RunFault.TurnLimit ↔ (¬ IsTrue self.held × IsTrue self.limit) }
-        ensures unwritten { (n : ℕ) → result ≡ Err (RunFault.WriteFailed n) → ⊥ }
-        ensures lost { IsErrOf result RunFault.Memory ↔ (¬ IsTrue self.held × (¬ IsTrue self.limit × IsTrue self.lost)) }
+        ensures held { IsErrOf result ThreadFault.Held ↔ IsTrue self.held }
+        ensures limit { IsErrOf result ThreadFault.TurnLimit ↔ (¬ IsTrue self.held × IsTrue self.limit) }
+        ensures lost { IsErrOf result ThreadFault.Memory ↔ (¬ IsTrue self.held × (¬ IsTrue self.limit × IsTrue self.lost)) }
     {
         if self.held {
-            return Err(RunFault::Held);
+            return Err(ThreadFault::Held);
         }
         if self.limit {
-            return Err(RunFault::TurnLimit);
+            return Err(ThreadFault::TurnLimit);
         }
         if self.lost {
-            return Err(RunFault::Memory);
+            return Err(ThreadFault::Memory);
         }
         Ok(self)
     }

@@ -7,14 +7,14 @@ ghost use Rattle.cops_trace.specs.Live.{IsCutBy, IsPrefixOf, IsHeardBy, IsLive};
 ghost use Rattle.cops_trace.specs.Text.{sessions_of, text};
 ghost use Rattle.cops_scenario.specs.Scenario.{setting_of};
 ghost use Rattle.cops_tie.specs.Runs.{IsRun};
-ghost use Rattle.cops_clients.specs.Callers.{AreJobsOf, AreReceiversOf, callers};
+ghost use Rattle.cops_clients.specs.Callers.{AreTasksOf, AreReceiversOf, callers};
 ghost use Rattle.cops_cluster.specs.Close.{holders};
 ghost use Rattle.cops_clients.specs.Faults.{WhereUntied};
 ghost use Rattle.cops_clients.specs.Gates.{MayHold};
 ghost use Rattle.cops_clients.specs.Live.{IsCutFor, IsHeardFor, above_entries, ticket_above};
 
 use crate::driving::drive;
-use crate::fault::RunFault;
+use crate::fault::{RunFault, ThreadFault};
 use crate::following::follow;
 use crate::gathering::Gathered;
 use crate::opening::{Opening, opened};
@@ -134,7 +134,7 @@ fn driven<R: Threads + Wait + Sync, G: Gate, W: Write + Send + Drop>(
 ) -> Live<W>
     requires place { opening.state.cluster.place ≡ setting.now.place }
     requires clients { opening.state.cluster.clients ≡ length setting.now.homes }
-    requires jobs { AreJobsOf setting.now opening.jobs.items }
+    requires tasks { AreTasksOf setting.now opening.tasks.items }
     requires receivers { AreReceiversOf setting.now opening.replicas.receivers.items }
     requires live { IsLive W.contents live }
     ensures ok { IfOk result.ran (λ r. IsRun setting.now clients.now (map (λ b. b.items) r.entries.items) (sessions_of r.trace) r.events.items r.outcomes.items) }
@@ -147,7 +147,7 @@ fn driven<R: Threads + Wait + Sync, G: Gate, W: Write + Send + Drop>(
 {
     let Opening {
         state,
-        jobs,
+        tasks,
         replicas,
     } = opening;
     let (followed, gathered) = thread::join(
@@ -159,14 +159,13 @@ fn driven<R: Threads + Wait + Sync, G: Gate, W: Write + Send + Drop>(
             ensures cut { IfErr result (λ u. IsCutBy u.fault (W.contents (inner live.begun.value)) (W.contents (inner u.writer))) }
             ensures heard { IfErr result (λ u. IsHeardBy u.fault (failures live.begun.value) (failures u.writer)) }
         { follow(rt, &state, live) },
-        || -> Result<Gathered, RunFault>
+        || -> Result<Gathered, ThreadFault>
             requires place { state.cluster.place ≡ setting.now.place }
-            requires jobs { AreJobsOf setting.now jobs.items }
+            requires tasks { AreTasksOf setting.now tasks.items }
             requires receivers { AreReceiversOf setting.now replicas.receivers.items }
-            ensures shares { IfOk result (λ g. holders g.shares.items ≡ callers jobs.entry.items replicas.receivers.items) }
-            ensures held { IsErrOf result RunFault.Held → MayHold setting.entry.now (G.may_hold gate.entry.now) }
-            ensures unwritten { (n : ℕ) → result ≡ Err (RunFault.WriteFailed n) → ⊥ }
-        { drive(rt, alloc, setting, &state, gate, jobs, replicas) },
+            ensures shares { IfOk result (λ g. holders g.shares.items ≡ callers tasks.entry.items replicas.receivers.items) }
+            ensures held { IsErrOf result ThreadFault.Held → MayHold setting.entry.now (G.may_hold gate.entry.now) }
+        { drive(rt, alloc, setting, &state, gate, tasks, replicas) },
     );
     let ran = ended(rt, alloc, setting, clients, state, gathered);
     match followed {

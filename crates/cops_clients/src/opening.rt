@@ -3,7 +3,7 @@ ghost use Rattle.std.specs.Prelude.{◌≡◌, ◌-◌, ◌<◌, All, IfOk, leng
 ghost use Rattle.cops_scenario.specs.Scenario.{setting_of};
 ghost use Rattle.cops_replication.specs.Wiring.{AreSenders};
 ghost use Rattle.cops_clients.specs.Opening.{HasItsScript};
-ghost use Rattle.cops_clients.specs.Callers.{AreJobsOf, AreReceiversOf};
+ghost use Rattle.cops_clients.specs.Callers.{AreTasksOf, AreReceiversOf};
 
 use crate::clients::ClientTask;
 use crate::state::RunState;
@@ -14,11 +14,11 @@ use cops_scenario::{Scenario, ScriptedClient};
 use cops_types::Memory;
 use std::alloc::Global;
 
-/// What a run starts with: the stage, each client with its script, and the senders and receivers.
+/// What a run starts with: the state, each client with its script, and the senders and receivers.
 #[derive(Drop)]
 pub(crate) struct Opening<'a> {
     pub(crate) state: RunState,
-    pub(crate) jobs: Vec<ClientTask<'a>>,
+    pub(crate) tasks: Vec<ClientTask<'a>>,
     pub(crate) replicas: Replicas,
 }
 
@@ -38,8 +38,8 @@ pub(crate) fn opened<'a>(
     ensures hold { IfOk result (λ o. o.state.hold ≡ scenario.now.hold) }
     ensures repeat { IfOk result (λ o. All (λ s. s.repeat ≡ scenario.now.repeat) o.replicas.senders.items) }
     ensures clients { IfOk result (λ o. o.state.cluster.clients ≡ length setting.now.homes) }
-    ensures jobs { IfOk result (λ o. AreJobsOf setting.now o.jobs.items) }
-    ensures scripts { IfOk result (λ o. All (HasItsScript scenario.now.clients) o.jobs.items) }
+    ensures tasks { IfOk result (λ o. AreTasksOf setting.now o.tasks.items) }
+    ensures scripts { IfOk result (λ o. All (HasItsScript scenario.now.clients) o.tasks.items) }
     ensures receivers { IfOk result (λ o. AreReceiversOf setting.now o.replicas.receivers.items) }
     ensures senders { IfOk result (λ o. AreSenders setting.now.place.dcs (setting.now.place.dcs - 1) scenario.now.link o.replicas.senders.items) }
 {
@@ -48,8 +48,8 @@ pub(crate) fn opened<'a>(
         clients,
         shares,
     } = Cluster::of(alloc, setting)?;
-    let jobs = match jobs(alloc, scenario.clients(), clients) {
-        Ok(jobs) => jobs,
+    let tasks = match tasks(alloc, scenario.clients(), clients) {
+        Ok(tasks) => tasks,
         Err(_) => {
             drop(cluster);
             drop(shares);
@@ -66,7 +66,7 @@ pub(crate) fn opened<'a>(
         Ok(replicas) => replicas,
         Err(_) => {
             drop(cluster);
-            drop(jobs);
+            drop(tasks);
             return Err(Memory);
         }
     };
@@ -77,28 +77,28 @@ pub(crate) fn opened<'a>(
             scenario.retries(),
             scenario.hold(),
         ),
-        jobs,
+        tasks,
         replicas,
     })
 }
 
 /// Each client, with the script at its number.
-fn jobs(
+fn tasks(
     alloc: Global,
     scripted: &[ScriptedClient],
     clients: Vec<Client>,
 ) -> Result<Vec<ClientTask<'_>>, Memory>
     requires { All (λ c. c.number < length scripted.now) clients.items }
-    ensures clients { IfOk result (λ jobs. map (λ j. j.client) jobs.items ≡ clients.items) }
-    ensures scripts { IfOk result (λ jobs. All (HasItsScript scripted.now) jobs.items) }
+    ensures clients { IfOk result (λ tasks. map (λ j. j.client) tasks.items ≡ clients.items) }
+    ensures scripts { IfOk result (λ tasks. All (HasItsScript scripted.now) tasks.items) }
 {
-    let mut jobs = Vec::new(alloc);
+    let mut tasks = Vec::new(alloc);
     for client in clients {
         let it = &scripted[usize::from(client.number())];
-        jobs.push(ClientTask {
+        tasks.push(ClientTask {
             client,
             script: &it.script,
         })?;
     }
-    Ok(jobs)
+    Ok(tasks)
 }

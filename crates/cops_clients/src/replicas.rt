@@ -9,7 +9,7 @@ use cops_replication::{Receiver, Sender, Turn, TurnFault};
 use cops_types::Gate;
 use std::sync::Wait;
 
-/// The body of a sender's thread: makes turns until the clients are joined, and then at most the stage's number of
+/// The body of a sender's thread: makes turns until the clients are joined, and then at most the state's number of
 /// turns, until nothing is left to send. Returns whether it got there, or the run was broken off.
 pub(crate) fn send<R: Wait>(rt: &R, state: &RunState, mut sender: Sender) -> bool {
     for _ in rt.forever() {
@@ -37,8 +37,8 @@ fn drain<R: Wait>(rt: &R, state: &RunState, sender: &mut Sender) -> bool {
     false
 }
 
-/// The body of a receiver's thread: makes turns until the clients are joined, and then at most the stage's number of
-/// turns, until the senders are joined and nothing is pending. Where the stage has late turns, it makes none until the
+/// The body of a receiver's thread: makes turns until the clients are joined, and then at most the state's number of
+/// turns, until the senders are joined and nothing is pending. Where the state has late turns, it makes none until the
 /// clients are joined, and then spends that number of turns without taking a frame.
 pub(crate) fn receive<R: Wait, G: Gate>(
     rt: &R,
@@ -63,7 +63,7 @@ pub(crate) fn receive<R: Wait, G: Gate>(
     }
 }
 
-/// A receiver's turns until the clients are joined; none where the stage has late turns. Returns whether the gate held
+/// A receiver's turns until the clients are joined; none where the state has late turns. Returns whether the gate held
 /// a step.
 fn take_in<R: Wait, G: Gate>(rt: &R, state: &RunState, gate: &G, receiver: &mut Receiver) -> bool
     ensures share { receiver.new.share.holder ≡ receiver.old.share.holder }

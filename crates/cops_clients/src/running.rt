@@ -6,13 +6,13 @@ ghost use Rattle.cops_trace.specs.Text.{sessions_of};
 ghost use Rattle.cops_scenario.specs.Scenario.{setting_of};
 ghost use Rattle.cops_cluster.specs.Close.{AreAll, made_in, reported};
 ghost use Rattle.cops_cluster.specs.Differences.{IsLeastDifference};
-ghost use Rattle.cops_tie.specs.NoRun.{IsNoRun, WhereNoRun};
+ghost use Rattle.cops_tie.specs.NoRun.{IsNoRun};
 ghost use Rattle.cops_tie.specs.Runs.{IsRun};
-ghost use Rattle.cops_clients.specs.Faults.{WhereUntied};
+ghost use Rattle.cops_tie.specs.Ticketed.{WhereUntied};
 ghost use Rattle.cops_clients.specs.Gates.{MayHold};
 
 use crate::driving::drive;
-use crate::fault::RunFault;
+use crate::fault::{RunFault, ThreadFault};
 use crate::gathering::Gathered;
 use crate::opening::{Opening, opened};
 use crate::ran::Run;
@@ -21,7 +21,7 @@ use cops_cluster::{CloseFault, Closed, Cluster, Share, Uncompared, difference_of
 use cops_core::{Event, Setting};
 use cops_node::Entry;
 use cops_scenario::{Scenario, ScriptedClient};
-use cops_tie::{CheckFault, ClientOutcome, checked};
+use cops_tie::{ClientOutcome, TieFault, checked};
 use cops_trace::Trace;
 use cops_types::Gate;
 use std::alloc::Global;
@@ -94,34 +94,43 @@ fn ran_in<R: Threads + Wait + Sync, G: Gate>(
     };
     let Opening {
         state,
-        jobs,
+        tasks,
         replicas,
     } = opening;
-    let driven = drive(rt, alloc, setting, &state, gate, jobs, replicas);
+    let driven = drive(rt, alloc, setting, &state, gate, tasks, replicas);
     ended(rt, alloc, setting, scenario.clients(), state, driven)
 }
 
-/// The run that has ended on this stage, from what the threads left.
+/// The run that has ended in this state, from what the threads left.
 pub(crate) fn ended<R: Threads + Sync>(
     rt: &R,
     alloc: Global,
     setting: &Setting,
     clients: &[ScriptedClient],
     state: RunState,
-    driven: Result<Gathered, RunFault>,
+    driven: Result<Gathered, ThreadFault>,
 ) -> Result<Run, RunFault>
     requires place { state.cluster.place ≡ setting.now.place }
     requires all { IfOk driven (λ g. AreAll state.cluster.clients state.cluster.place.dcs g.shares.items) }
     ensures ok { IfOk result (λ r. IsRun setting.now clients.now (map (λ b. b.items) r.entries.items) (sessions_of r.trace) r.events.items r.outcomes.items) }
     ensures accepted { IfOk result (λ r. HasAcceptedVerdict (sessions_of r.trace)) }
-    ensures fault { IsErrOf result RunFault.Held → IsErrOf driven RunFault.Held }
-    ensures unwritten { (n : ℕ) → result ≡ Err (RunFault.WriteFailed n) → driven ≡ Err (RunFault.WriteFailed n) }
+    ensures fault { IsErrOf result RunFault.Held → IsErrOf driven ThreadFault.Held }
+    ensures unwritten { (n : ℕ) → result ≡ Err (RunFault.WriteFailed n) → ⊥ }
 {
     match driven {
-        Ok(gathered) => tied(rt, alloc, setting, clients, state.into_cluster(), gathered),
+        Ok(gathered) => match tied(rt, alloc, setting, clients, state.into_cluster(), gathered) {
+            Ok(run) => Ok(run),
+            Err(TieFault::Memory) => Err(RunFault::Memory),
+            Err(TieFault::Untied { ticket }) => Err(RunFault::Untied { ticket }),
+        },
         Err(fault) => {
             drop(state);
-            Err(fault)
+            Err(match fault {
+                ThreadFault::Memory => RunFault::Memory,
+                ThreadFault::Held => RunFault::Held,
+                ThreadFault::TurnLimit => RunFault::TurnLimit,
+                ThreadFault::NoThread => RunFault::NoThread,
+            })
         }
     }
 }
@@ -135,14 +144,12 @@ fn tied<R: Threads + Sync>(
     clients: &[ScriptedClient],
     cluster: Cluster,
     gathered: Gathered,
-) -> Result<Run, RunFault>
+) -> Result<Run, TieFault>
     requires place { cluster.place ≡ setting.now.place }
     requires all { AreAll cluster.clients cluster.place.dcs gathered.shares.items }
     ensures ok { IfOk result (λ r. IsRun setting.now clients.now (map (λ b. b.items) r.entries.items) (sessions_of r.trace) r.events.items r.outcomes.items) }
     ensures accepted { IfOk result (λ r. HasAcceptedVerdict (sessions_of r.trace)) }
     ensures reported { IfOk result (λ r. IsPermutation (made_in (length setting.now.place.splits + 1) 0 r.entries.items) (reported gathered.shares.items)) }
-    ensures fault { result ≡ Err RunFault.Held → ⊥ }
-    ensures unwritten { (n : ℕ) → result ≡ Err (RunFault.WriteFailed n) → ⊥ }
 {
     let Gathered {
         shares,
@@ -182,13 +189,11 @@ fn examined<R: Threads + Sync>(
     trace: &Trace,
     shares: Vec<Share>,
     outcomes: &[ClientOutcome],
-) -> Result<Vec<Event>, RunFault>
+) -> Result<Vec<Event>, TieFault>
     requires { length books.now ≡ setting.now.place.dcs * (length setting.now.place.splits + 1) }
     ensures ok { IfOk result (λ events. IsRun setting.now clients.now (map (λ b. b.items) books.now) (sessions_of trace.now) events.items outcomes.now) }
     ensures accepted { OnOk result (HasAcceptedVerdict (sessions_of trace.now)) }
     ensures reported { OnOk result (IsPermutation (made_in (length setting.now.place.splits + 1) 0 books.now) (reported shares.items)) }
-    ensures fault { result ≡ Err RunFault.Held → ⊥ }
-    ensures unwritten { (n : ℕ) → result ≡ Err (RunFault.WriteFailed n) → ⊥ }
     ensures untied { IfErr result (WhereUntied (λ ticket.
         IsLeastDifference (made_in (length setting.now.place.splits + 1) 0 books.now) (reported shares.items) ticket
         ⊎ IsNoRun setting.now clients.now (map (λ b. b.items) books.now) (sessions_of trace.now) outcomes.now ticket)) }
@@ -196,30 +201,24 @@ fn examined<R: Threads + Sync>(
     let places = setting.nodes();
     let (compared, checked) = thread::join(
         rt,
-        || -> Result<(), RunFault>
+        || -> Result<(), TieFault>
             requires places { (0 < places) × (places ≤ PLACES) }
             requires few { length books.now ≤ NODES }
             ensures reported { OnOk result (IsPermutation (made_in places 0 books.entry.now) (reported shares.items)) }
-            ensures fault { result ≡ Err RunFault.Held → ⊥ }
-            ensures unwritten { (n : ℕ) → result ≡ Err (RunFault.WriteFailed n) → ⊥ }
             ensures untied { IfErr result (WhereUntied (IsLeastDifference (made_in places 0 books.entry.now) (reported shares.items))) }
         { compare(alloc, places, books, shares) },
-        || -> Result<Vec<Event>, CheckFault>
+        || -> Result<Vec<Event>, TieFault>
             requires { length books.now ≡ setting.now.place.dcs * (length setting.now.place.splits + 1) }
             ensures ok { IfOk result (λ events. IsRun setting.entry.now clients.entry.now (map (λ b. b.items) books.entry.now) (sessions_of trace.entry.now) events.items outcomes.entry.now) }
             ensures accepted { OnOk result (HasAcceptedVerdict (sessions_of trace.entry.now)) }
-            ensures untied { IfErr result (WhereNoRun (IsNoRun setting.entry.now clients.entry.now (map (λ b. b.items) books.entry.now) (sessions_of trace.entry.now) outcomes.entry.now)) }
+            ensures untied { IfErr result (WhereUntied (IsNoRun setting.entry.now clients.entry.now (map (λ b. b.items) books.entry.now) (sessions_of trace.entry.now) outcomes.entry.now)) }
         { checked(alloc, setting, clients, books, trace, outcomes) },
     );
     match compared {
         Ok(()) => {}
         Err(fault) => return Err(fault),
     }
-    match checked {
-        Ok(events) => Ok(events),
-        Err(CheckFault::Memory) => Err(RunFault::Memory),
-        Err(CheckFault::Untied { ticket }) => Err(RunFault::Untied { ticket }),
-    }
+    checked
 }
 
 /// Returns `Untied` unless the logs and the shares have the same entries, as multisets. Consumes the shares.
@@ -228,31 +227,29 @@ fn compare(
     places: u8,
     books: &[Vec<Entry>],
     shares: Vec<Share>,
-) -> Result<(), RunFault>
+) -> Result<(), TieFault>
     requires places { (0 < places) × (places ≤ PLACES) }
     requires few { length books.now ≤ NODES }
     ensures reported { OnOk result (IsPermutation (made_in places 0 books.now) (reported shares.items)) }
-    ensures fault { result ≡ Err RunFault.Held → ⊥ }
-    ensures unwritten { (n : ℕ) → result ≡ Err (RunFault.WriteFailed n) → ⊥ }
     ensures untied { IfErr result (WhereUntied (IsLeastDifference (made_in places 0 books.now) (reported shares.items))) }
 {
     match difference_of_lists(alloc, places, books, &shares) {
         Ok(None) => Ok(()),
-        Ok(Some(ticket)) => Err(RunFault::Untied { ticket }),
-        Err(_) => Err(RunFault::Memory),
+        Ok(Some(ticket)) => Err(TieFault::Untied { ticket }),
+        Err(_) => Err(TieFault::Memory),
     }
 }
 
 /// Closes a cluster whose threads are joined. Returns `Memory` when memory runs out.
-fn closed(cluster: Cluster, shares: Vec<Share>) -> Result<Uncompared, RunFault>
+fn closed(cluster: Cluster, shares: Vec<Share>) -> Result<Uncompared, TieFault>
     requires all { AreAll cluster.clients cluster.place.dcs shares.items }
     ensures len { IfOk result (λ u. length u.closed.books.items ≡ cluster.place.dcs * (length cluster.place.splits + 1)) }
     ensures shares { IfOk result (λ u. u.shares ≡ shares) }
-    ensures fault { OnErr result (result ≡ Err RunFault.Memory) }
+    ensures fault { OnErr result (result ≡ Err TieFault.Memory) }
 {
     match cluster.close_uncompared(shares) {
         Ok(uncompared) => Ok(uncompared),
-        Err(CloseFault::Memory(_, _)) => Err(RunFault::Memory),
+        Err(CloseFault::Memory(_, _)) => Err(TieFault::Memory),
         Err(CloseFault::SharesMissing(_, _)) | Err(CloseFault::NotKept { .. }) => unreachable!(),
     }
 }

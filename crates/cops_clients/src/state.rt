@@ -24,7 +24,7 @@ pub(crate) struct RunState {
 impl RunState {
     ghost use Rattle.std.specs.Prelude.{◌≡◌};
 
-    /// A stage with this cluster and these numbers of turns, retries and late turns. Nothing has been joined or broken
+    /// A state with this cluster and these numbers of turns, retries and late turns. Nothing has been joined or broken
     /// off.
     pub(crate) fn new(cluster: Cluster, turns: u32, retries: u8, hold: u16) -> RunState
         ensures cluster { result.cluster ≡ cluster }

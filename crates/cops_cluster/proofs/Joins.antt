@@ -7,7 +7,7 @@ use Rattle.std.specs.List.Sorted.{IsNonDecreasingBy, IsPermutation}
 use Rattle.std.proofs.lemmas.List.Sorted.{IsPermutation-refl, IsPermutation-map, IsPermutation-sym, IsPermutation-trans}
 use Rattle.std.specs.Prelude.{Result, Ok, Err, IfNone, IfOk, IfSome}
 use Rattle.cops_cluster.specs.declared.share.Made.{Made}
-use Rattle.cops_cluster.specs.declared.noted.Noted.{Noted}
+use Rattle.cops_cluster.specs.declared.logged.LoggedEntry.{LoggedEntry}
 use Rattle.cops_cluster.specs.Differences.{Compares, IsLeastDifference}
 use Rattle.cops_cluster.specs.Differing.{shown, ticket_of}
 use Rattle.cops_cluster.proofs.Differences.{IsLeast, absent_above, least_by_first, least_flipped, least_permuted}
@@ -24,35 +24,35 @@ compares_sorted xs us ys vs None p q same = IsPermutation-trans xs us ys p (IsPe
 compares_sorted xs us ys vs (Some t) p q h = least xs ys t (least_permuted ticket xs us ys vs t p q (h.differs, h.below))
 
 -- sorted by the copied tickets is sorted by the tickets of the entries
-pub sorted_by_entries : (l : List Noted) → IsNonDecreasingBy (λ (n : Noted). n.ticket) l → IsNonDecreasingBy ticket_of l
+pub sorted_by_entries : (l : List LoggedEntry) → IsNonDecreasingBy (λ (n : LoggedEntry). n.ticket) l → IsNonDecreasingBy ticket_of l
 sorted_by_entries l sorted = λ i j d le inside. omega (arith, sorted i j d le inside, (get_or l i d).same, (get_or l j d).same)
 
-sorted_shown : (l : List Noted) → IsNonDecreasingBy ticket_of l → IsNonDecreasingBy ticket (map shown l)
+sorted_shown : (l : List LoggedEntry) → IsNonDecreasingBy ticket_of l → IsNonDecreasingBy ticket (map shown l)
 sorted_shown [] sorted = λ i j d le inside. absurd (not-suc-le-zero inside)
 sorted_shown (n ∷ ns) sorted = λ i j d le inside.
     let within : j < length (n ∷ ns) = omega (arith, length-map (n ∷ ns) shown) in
     omega (arith, ap ticket (get_or-map shown (n ∷ ns) i n d (omega arith)), ap ticket (get_or-map shown (n ∷ ns) j n d within), sorted i j n le within)
 
 -- one more equal entry extends the common prefix
-pub same_more : (news olds kept : List Noted) (i : ℕ) (d r : Noted) → i < length news → i < length kept → take i news ≡ take i olds → take i (map shown olds) ≡ take i (map shown kept)
+pub same_more : (news olds kept : List LoggedEntry) (i : ℕ) (d r : LoggedEntry) → i < length news → i < length kept → take i news ≡ take i olds → take i (map shown olds) ≡ take i (map shown kept)
     → get_or news i d ≡ d → shown d ≡ shown r → r ≡ get_or kept i r → take (i + 1) (map shown news) ≡ take (i + 1) (map shown kept)
 same_more news olds kept i d r in_news in_kept before same at is there =
     let e : get_or (map shown news) i (shown d) ≡ shown r = get_or-map shown news i d (shown d) in_news ∙ (ap shown at ∙ is) in
     let f : get_or (map shown kept) i (shown d) ≡ shown r = get_or-map shown kept i r (shown d) in_kept ∙ ap shown (sym there) in
     take_more_same (map shown news) (map shown kept) i (shown d)
     (subst (λ (n : ℕ). i < n) (sym (length-map news shown)) in_news) (subst (λ (n : ℕ). i < n) (sym (length-map kept shown)) in_kept)
-    (take-map shown i news ∙ (ap (λ (l : List Noted). map shown l) before ∙ (sym (take-map shown i olds) ∙ same))) (e ∙ sym f)
+    (take-map shown i news ∙ (ap (λ (l : List LoggedEntry). map shown l) before ∙ (sym (take-map shown i olds) ∙ same))) (e ∙ sym f)
 
 -- a common prefix that reaches the end of both lists makes the lists equal as multisets
-pub same_all : (news olds kept : List Noted) (i : ℕ) → IsPermutation olds news → take i (map shown news) ≡ take i (map shown kept) → length news ≤ i → length kept ≤ i → IsPermutation (map shown kept) (map shown olds)
+pub same_all : (news olds kept : List LoggedEntry) (i : ℕ) → IsPermutation olds news → take i (map shown news) ≡ take i (map shown kept) → length news ≤ i → length kept ≤ i → IsPermutation (map shown kept) (map shown olds)
 same_all news olds kept i order same new_ends kept_ends =
     let new_all : take i (map shown news) ≡ map shown news = take_all i (map shown news) (omega (arith, length-map news shown)) in
     let kept_all : take i (map shown kept) ≡ map shown kept = take_all i (map shown kept) (omega (arith, length-map kept shown)) in
     subst (λ (l : List Made). IsPermutation l (map shown olds)) (sym new_all ∙ (same ∙ kept_all)) (IsPermutation-sym (map shown olds) (map shown news) (IsPermutation-map shown olds news order))
 
-module _ (kept olds news : List Noted) (i t : ℕ) (n : Noted) (kept_sorted : IsNonDecreasingBy ticket_of kept) (news_sorted : IsNonDecreasingBy ticket_of news)
+module _ (kept olds news : List LoggedEntry) (i t : ℕ) (n : LoggedEntry) (kept_sorted : IsNonDecreasingBy ticket_of kept) (news_sorted : IsNonDecreasingBy ticket_of news)
     (order : IsPermutation olds news) (same : take i (map shown news) ≡ take i (map shown kept)) (its : t ≡ ticket_of n) where
-  lifted : (l : List Noted) (d : Made) → i < length (map shown l) → (i < length l) × (ticket (get_or (map shown l) i d) ≡ ticket_of (get_or l i n))
+  lifted : (l : List LoggedEntry) (d : Made) → i < length (map shown l) → (i < length l) × (ticket (get_or (map shown l) i d) ≡ ticket_of (get_or l i n))
   lifted l d inside =
       let within : i < length l = omega (arith, length-map l shown) in
       (within, ap ticket (get_or-map shown l i n d within))
@@ -81,7 +81,7 @@ module _ (kept olds news : List Noted) (i t : ℕ) (n : Noted) (kept_sorted : Is
       (λ d within. let r = lifted kept d within in omega (arith, above r.0, r.1)) absent))
 
 -- an entry does not occur from place `i` on, where those up to place `j` are not it and those after have greater tickets
-pub missing_from : (l : List Noted) (i j : ℕ) (n : Noted) → ((k : ℕ) → i ≤ k → k < j → shown (get_or l k n) ≡ shown n → ⊥) → ((k : ℕ) → j ≤ k → k < length l → ticket_of n < ticket_of (get_or l k n))
+pub missing_from : (l : List LoggedEntry) (i j : ℕ) (n : LoggedEntry) → ((k : ℕ) → i ≤ k → k < j → shown (get_or l k n) ≡ shown n → ⊥) → ((k : ℕ) → j ≤ k → k < length l → ticket_of n < ticket_of (get_or l k n))
     → Contains (drop i (map shown l)) (shown n) → ⊥
 missing_from l i j n passed later stands =
     let k : ℕ = i + stands.0 in

@@ -19,12 +19,10 @@ use Rattle.cops_node.specs.declared.outcome.Outcome.TheVariants.{Yes, Wait, Refu
 use Rattle.cops_cluster.specs.declared.share.Made.{Made}
 use Rattle.cops_cluster.specs.declared.fault.Stop.{Stop}
 use Rattle.cops_cluster.specs.declared.fault.Stop.TheVariants.{Refused, GateHeld as StoppedThere}
-use Rattle.cops_cluster.specs.declared.stepping.ClientAnswer.{ClientAnswer}
 use Rattle.cops_cluster.specs.declared.stepping.NodeReply.{NodeReply}
-use Rattle.cops_cluster.specs.declared.stepping.CopiedOutcome.{CopiedOutcome}
 use Rattle.cops_cluster.specs.Shares.{Adds, AddsEntry, AddsAtMostOne, is_of_node, is_refusal_of_node}
 use Rattle.cops_cluster.specs.Cluster.{IsStop, write_event}
-use Rattle.cops_cluster.specs.Replies.{IsReplyOf, IsReplyOfSeen, IsSpent}
+use Rattle.cops_cluster.specs.Replies.{IsReplyIn, IsReplyOf}
 use Rattle.cops_cluster.specs.Outcomes.{IsGetOutcome, IsNodeAnswer, IsOutOfMemory, IsWriteOutcome, StopsWith}
 
 -- a step of this node, whose number does not change and whose outcome is one of a node's own
@@ -84,23 +82,13 @@ module _ (before after : List Made) (node : ℕ) (event : NodeEvent) where
   kept_stop may_hold at client (Refused code) same e none other = subst (λ (s : Stop). IsKept (Err s)) (sym e) (none, other)
   kept_stop may_hold at client StoppedThere same e none other = subst (λ (s : Stop). IsKept (Err s)) (sym e) none
 
-  pub seen_kept : (may_hold : Point → Type 0) (at client number : ℕ) (answered : Result CopiedOutcome Stop) (reply : Result NodeReply Stop)
-      → IfOk answered (λ t. AddsEntry before after node event t.outcome) → IfOk answered (λ t. (t.seen ≡ t.outcome) × (is_of_node t.outcome ≡ true))
-      → OnErr answered (after ≡ before) → IfErr answered (IsStop may_hold at client) → IsReplyOfSeen number answered reply → IsKept reply
-  seen_kept may_hold at client number (Ok t) (Ok r) reported is none stop same =
-      (subst (λ (o : Outcome). AddsEntry before after node event o) (sym same.0) reported, ap is_of_node same.0 ∙ is.1)
-  seen_kept may_hold at client number (Ok t) (Err s) reported is none stop same = absurd same
-  seen_kept may_hold at client number (Err s) (Ok r) reported is none stop same = absurd same
-  seen_kept may_hold at client number (Err s) (Err t) reported is none stop same = kept_stop may_hold at client s t same none stop
-
-  pub answer_kept : (may_hold : Point → Type 0) (at client number : ℕ) (answered : Result ClientAnswer Stop) (reply : Result NodeReply Stop)
-      → IfOk answered (λ a. AddsEntry before after node event a.outcome) → IfOk answered (λ a. (is_of_node a.outcome ≡ true) × (a.node ≡ number))
-      → OnErr answered (after ≡ before) → IfErr answered (IsStop may_hold at client) → IsSpent answered reply → IsKept reply
-  answer_kept may_hold at client number (Ok t) (Ok r) reported is none stop same =
-      (subst (λ (o : Outcome). AddsEntry before after node event o) (sym same.0) reported, ap is_of_node same.0 ∙ is.0)
-  answer_kept may_hold at client number (Ok t) (Err s) reported is none stop same = absurd same
-  answer_kept may_hold at client number (Err s) (Ok r) reported is none stop same = absurd same
-  answer_kept may_hold at client number (Err s) (Err t) reported is none stop same = kept_stop may_hold at client s t same none stop
+  pub reply_kept : {X : Type 0} (may_hold : Point → Type 0) (at client : ℕ) (answered : Result (NodeReply × X) Stop) (reply : Result NodeReply Stop)
+      → IfOk answered (λ t. AddsEntry before after node event t.0.outcome) → IfOk answered (λ t. is_of_node t.0.outcome ≡ true)
+      → OnErr answered (after ≡ before) → IfErr answered (IsStop may_hold at client) → IsReplyIn answered reply → IsKept reply
+  reply_kept may_hold at client (Ok t) (Ok r) adds own none stop same = subst (λ (x : NodeReply). IsKept (Ok x)) (sym same) (adds, own)
+  reply_kept may_hold at client (Ok t) (Err s) adds own none stop same = absurd same
+  reply_kept may_hold at client (Err s) (Ok r) adds own none stop same = absurd same
+  reply_kept may_hold at client (Err s) (Err t) adds own none stop same = kept_stop may_hold at client s t same none stop
 
   -- the outcome that the caller gets is that of the entry which its share gained
   pub reported_adds : (reply : Result NodeReply Stop) (result : Result Outcome GateHeld) → IsKept reply → IfOk result (IsReplyOf reply) → IfOk result (λ out. Adds before after node event out)
@@ -117,11 +105,11 @@ module _ (before after : List Made) (node : ℕ) (event : NodeEvent) where
   most_adds (Err StoppedThere) kept = inl kept
 
 -- the client's context is the one that follows from the outcome which the caller gets
-pub reported_context : (after : Outcome → List Dep) (pairs new : List Dep) (answered : Result ClientAnswer Stop) (reply : Result NodeReply Stop) (result : Result Outcome GateHeld)
-    → ((code : Refusal) → after (RefusedWith code) ≡ pairs) → IfOk answered (λ a. new ≡ after a.outcome) → OnErr answered (new ≡ pairs) → IsSpent answered reply
+pub reported_context : {X : Type 0} (after : Outcome → List Dep) (pairs new : List Dep) (answered : Result (NodeReply × X) Stop) (reply : Result NodeReply Stop) (result : Result Outcome GateHeld)
+    → ((code : Refusal) → after (RefusedWith code) ≡ pairs) → IfOk answered (λ a. new ≡ after a.0.outcome) → OnErr answered (new ≡ pairs) → IsReplyIn answered reply
     → IfOk result (IsReplyOf reply) → IfOk result (λ out. new ≡ after out)
 reported_context after pairs new answered reply (Err e) refused is none same reported = tt
-reported_context after pairs new (Ok a) (Ok r) (Ok out) refused is none same reported = is ∙ ap after (sym (reported ∙ same.0))
+reported_context after pairs new (Ok a) (Ok r) (Ok out) refused is none same reported = is ∙ ap after (sym (reported ∙ ap (λ (x : NodeReply). x.outcome) same))
 reported_context after pairs new (Ok a) (Err s) (Ok out) refused is none same reported = absurd same
 reported_context after pairs new (Err s) (Ok r) (Ok out) refused is none same reported = absurd same
 reported_context after pairs new (Err s) (Err (Refused code)) (Ok out) refused is none same reported = none ∙ sym (refused code) ∙ ap after (sym reported)
@@ -192,21 +180,21 @@ stop_written : (content : Option (List ℕ)) (stop : Stop) (out : Outcome) → S
 stop_written content stop out want reported = subst (IsWriteOutcome content) (sym (out_of_memory_of stop out want reported)) (out_of_memory_written content)
 
 -- the outcome that the caller of a write gets is one of a write's outcomes
-pub reported_written : (content : Option (List ℕ)) (answered : Result ClientAnswer Stop) (reply : Result NodeReply Stop) (result : Result Outcome GateHeld)
-    → IfOk answered (λ a. IsWriteOutcome content a.outcome) → IfErr answered (StopsWith IsOutOfMemory) → IsSpent answered reply → IfOk result (IsReplyOf reply)
+pub reported_written : {X : Type 0} (content : Option (List ℕ)) (answered : Result (NodeReply × X) Stop) (reply : Result NodeReply Stop) (result : Result Outcome GateHeld)
+    → IfOk answered (λ a. IsWriteOutcome content a.0.outcome) → IfErr answered (StopsWith IsOutOfMemory) → IsReplyIn answered reply → IfOk result (IsReplyOf reply)
     → IfOk result (IsWriteOutcome content)
 reported_written content answered reply (Err e) is want same reported = tt
-reported_written content (Ok a) (Ok r) (Ok out) is want same reported = subst (IsWriteOutcome content) (sym (reported ∙ same.0)) is
+reported_written content (Ok a) (Ok r) (Ok out) is want same reported = subst (IsWriteOutcome content) (sym (reported ∙ ap (λ (x : NodeReply). x.outcome) same)) is
 reported_written content (Ok a) (Err s) (Ok out) is want same reported = absurd same
 reported_written content (Err s) (Ok r) (Ok out) is want same reported = absurd same
 reported_written content (Err s) (Err t) (Ok out) is want same reported = stop_written content s out want (subst (λ (x : Stop). IsReplyOf (Err x) out) same reported)
 
 -- the outcome that the caller gets is some node's answer, or out of memory
-pub reported_answers : (event : NodeEvent) (number : ℕ) (answered : Result CopiedOutcome Stop) (reply : Result NodeReply Stop) (result : Result Outcome GateHeld)
-    → IfOk answered (λ t. IsNodeAnswer event t.outcome) → IfErr answered (StopsWith IsOutOfMemory) → IsReplyOfSeen number answered reply → IfOk result (IsReplyOf reply)
+pub reported_answers : {X : Type 0} (event : NodeEvent) (answered : Result (NodeReply × X) Stop) (reply : Result NodeReply Stop) (result : Result Outcome GateHeld)
+    → IfOk answered (λ t. IsNodeAnswer event t.0.outcome) → IfErr answered (StopsWith IsOutOfMemory) → IsReplyIn answered reply → IfOk result (IsReplyOf reply)
     → IfOk result (λ out. IsNodeAnswer event out ⊎ IsOutOfMemory out)
-reported_answers event number answered reply (Err e) is want same reported = tt
-reported_answers event number (Ok t) (Ok r) (Ok out) is want same reported = inl (subst (λ (o : Outcome). IsNodeAnswer event o) (sym (reported ∙ same.0)) is)
-reported_answers event number (Ok t) (Err s) (Ok out) is want same reported = absurd same
-reported_answers event number (Err s) (Ok r) (Ok out) is want same reported = absurd same
-reported_answers event number (Err s) (Err t) (Ok out) is want same reported = inr (out_of_memory_of s out want (subst (λ (x : Stop). IsReplyOf (Err x) out) same reported))
+reported_answers event answered reply (Err e) is want same reported = tt
+reported_answers event (Ok t) (Ok r) (Ok out) is want same reported = inl (subst (λ (o : Outcome). IsNodeAnswer event o) (sym (reported ∙ ap (λ (x : NodeReply). x.outcome) same)) is)
+reported_answers event (Ok t) (Err s) (Ok out) is want same reported = absurd same
+reported_answers event (Err s) (Ok r) (Ok out) is want same reported = absurd same
+reported_answers event (Err s) (Err t) (Ok out) is want same reported = inr (out_of_memory_of s out want (subst (λ (x : Stop). IsReplyOf (Err x) out) same reported))

@@ -6,9 +6,7 @@ use Rattle.cops_node.specs.declared.outcome.Outcome.{Outcome}
 use Rattle.cops_node.specs.declared.outcome.Outcome.TheVariants.{Refused as RefusedWith}
 use Rattle.cops_cluster.specs.declared.fault.Stop.{Stop}
 use Rattle.cops_cluster.specs.declared.fault.Stop.TheVariants.{Refused, GateHeld}
-use Rattle.cops_cluster.specs.declared.stepping.ClientAnswer.{ClientAnswer}
 use Rattle.cops_cluster.specs.declared.stepping.NodeReply.{NodeReply}
-use Rattle.cops_cluster.specs.declared.stepping.CopiedOutcome.{CopiedOutcome}
 
 -- the outcome is what the node answered, or the refusal that came before it
 abbrev pub IsReplyOf : Result NodeReply Stop → Outcome → Type 0
@@ -22,14 +20,8 @@ WasHeld may_hold client (Ok reply) = may_hold (Answered reply.node client)
 WasHeld may_hold client (Err (Refused refused)) = ⊥
 WasHeld may_hold client (Err GateHeld) = Unit {0}
 
--- the reply is the answer without the operation that the client saw
-abbrev pub IsSpent : Result ClientAnswer Stop → Result NodeReply Stop → Type 0
-IsSpent (Ok a) (Ok reply) = (reply.outcome ≡ a.outcome) × (reply.node ≡ a.node)
-IsSpent (Err stop) (Err same) = same ≡ stop
-IsSpent _ _ = ⊥
-
--- the reply is the answer together with the node's number
-abbrev pub IsReplyOfSeen : ℕ → Result CopiedOutcome Stop → Result NodeReply Stop → Type 0
-IsReplyOfSeen node (Ok seen) (Ok reply) = (reply.outcome ≡ seen.outcome) × (reply.node ≡ node)
-IsReplyOfSeen node (Err stop) (Err same) = same ≡ stop
-IsReplyOfSeen node _ _ = ⊥
+-- the reply without what is returned with it
+abbrev pub IsReplyIn : {X : Type 0} → Result (NodeReply × X) Stop → Result NodeReply Stop → Type 0
+IsReplyIn (Ok answer) (Ok reply) = reply ≡ answer.0
+IsReplyIn (Err stop) (Err same) = same ≡ stop
+IsReplyIn _ _ = ⊥

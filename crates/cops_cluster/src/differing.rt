@@ -5,12 +5,12 @@ ghost use Rattle.std.specs.List.Sorted.{IsNonDecreasingBy, IsPermutation};
 ghost use Rattle.cops_types.specs.declared.limits.TheConstants.{NODES, PLACES};
 ghost use Rattle.cops_cluster.specs.Close.{entries_at, made_by, made_in, number_of, reported};
 ghost use Rattle.cops_cluster.specs.Shares.{made};
-ghost use Rattle.cops_cluster.specs.declared.noted.Noted.{Noted};
+ghost use Rattle.cops_cluster.specs.declared.logged.LoggedEntry.{LoggedEntry};
 ghost use Rattle.cops_cluster.specs.Differences.{Compares};
 ghost use Rattle.cops_cluster.specs.Differing.{shown, ticket_of};
 
 use crate::closing::number_at;
-use crate::noted::Noted;
+use crate::logged::LoggedEntry;
 use crate::share::Share;
 use cops_node::{Book, Entry};
 use std::alloc::{AllocError, Global};
@@ -50,13 +50,16 @@ pub fn difference_of_lists(
 }
 
 /// The least ticket at which two lists differ; `None` where they are equal as multisets.
-fn compared(kept: Vec<Noted<'_>>, heard: Vec<Noted<'_>>) -> Result<Option<u64>, AllocError>
+fn compared(
+    kept: Vec<LoggedEntry<'_>>,
+    heard: Vec<LoggedEntry<'_>>,
+) -> Result<Option<u64>, AllocError>
     ensures { IfOk result (Compares (map shown kept.entry.items) (map shown heard.entry.items)) }
 {
     let mut kept = kept;
     let mut heard = heard;
-    kept.sort_by_key(|noted| noted.ticket)?;
-    heard.sort_by_key(|noted| noted.ticket)?;
+    kept.sort_by_key(|logged| logged.ticket)?;
+    heard.sort_by_key(|logged| logged.ticket)?;
     Ok(first_difference(&kept, &mut heard))
 }
 
@@ -65,7 +68,7 @@ fn listed_in<'a>(
     alloc: Global,
     places: usize,
     lists: &'a [Vec<Entry>],
-) -> Result<Vec<Noted<'a>>, AllocError>
+) -> Result<Vec<LoggedEntry<'a>>, AllocError>
     requires places { 0 < places × places ≤ PLACES }
     requires few { length lists.now ≤ NODES }
     ensures { IfOk result (λ all. map shown all.items ≡ made_in places 0 lists.now) }
@@ -82,7 +85,7 @@ fn kept_in<'a>(
     alloc: Global,
     places: usize,
     books: &'a [Book],
-) -> Result<Vec<Noted<'a>>, AllocError>
+) -> Result<Vec<LoggedEntry<'a>>, AllocError>
     requires places { 0 < places × places ≤ PLACES }
     requires few { length books.now ≤ NODES }
     ensures { IfOk result (λ all. map shown all.items ≡ made_by places 0 books.now) }
@@ -96,7 +99,7 @@ fn kept_in<'a>(
 
 /// Adds the entries of `book`, if it belongs to the nth node.
 fn add_book<'a>(
-    all: &mut Vec<Noted<'a>>,
+    all: &mut Vec<LoggedEntry<'a>>,
     places: usize,
     n: usize,
     book: &'a Book,
@@ -113,7 +116,7 @@ fn add_book<'a>(
 }
 
 fn add_entries<'a>(
-    all: &mut Vec<Noted<'a>>,
+    all: &mut Vec<LoggedEntry<'a>>,
     node: u16,
     entries: &'a [Entry],
 ) -> Result<(), AllocError>
@@ -121,13 +124,13 @@ fn add_entries<'a>(
 {
     all.reserve(entries.len())?;
     for entry in entries {
-        all.push(Noted::new(entry, node))?;
+        all.push(LoggedEntry::new(entry, node))?;
     }
     Ok(())
 }
 
 /// The entries of the shares.
-fn reported_in<'a>(alloc: Global, shares: &'a [Share]) -> Result<Vec<Noted<'a>>, AllocError>
+fn reported_in<'a>(alloc: Global, shares: &'a [Share]) -> Result<Vec<LoggedEntry<'a>>, AllocError>
     ensures { IfOk result (λ all. map shown all.items ≡ reported shares.now) }
 {
     let mut all = Vec::new(alloc);
@@ -138,31 +141,31 @@ fn reported_in<'a>(alloc: Global, shares: &'a [Share]) -> Result<Vec<Noted<'a>>,
 }
 
 /// Adds the entries of one share.
-fn add_share<'a>(all: &mut Vec<Noted<'a>>, share: &'a Share) -> Result<(), AllocError>
+fn add_share<'a>(all: &mut Vec<LoggedEntry<'a>>, share: &'a Share) -> Result<(), AllocError>
     ensures { OnOk result (map shown all.new.items ≡ map shown all.old.items ++ share.now.entries.items) }
 {
     all.reserve(share.entries.len())?;
     for made in &share.entries {
-        all.push(Noted::new(&made.entry, made.node))?;
+        all.push(LoggedEntry::new(&made.entry, made.node))?;
     }
     Ok(())
 }
 
 /// The least ticket at which two lists sorted by ticket differ. Entries of one ticket may come in any order.
-fn first_difference(kept: &[Noted<'_>], heard: &mut [Noted<'_>]) -> Option<u64>
+fn first_difference(kept: &[LoggedEntry<'_>], heard: &mut [LoggedEntry<'_>]) -> Option<u64>
     requires kept { IsNonDecreasingBy ticket_of kept.now }
     requires heard { IsNonDecreasingBy ticket_of heard.old }
     ensures { Compares (map shown kept.now) (map shown heard.old) result }
 {
     let both = kept.len().min(heard.len());
     for i in 0..both {
-        let noted = &kept[i];
+        let logged = &kept[i];
         let ticket = heard[i].ticket;
-        if ticket < noted.ticket {
+        if ticket < logged.ticket {
             return Some(ticket);
         }
-        if !bring(noted, heard, i) {
-            return Some(noted.ticket);
+        if !bring(logged, heard, i) {
+            return Some(logged.ticket);
         }
     }
     if both < kept.len() {
@@ -174,24 +177,24 @@ fn first_difference(kept: &[Noted<'_>], heard: &mut [Noted<'_>]) -> Option<u64>
     None
 }
 
-/// Searches the entries with this ticket, from place `i` on, for one equal to `noted`, and swaps it to place `i`.
+/// Searches the entries with this ticket, from place `i` on, for one equal to `logged`, and swaps it to place `i`.
 /// Returns whether it was found.
-fn bring(noted: &Noted<'_>, heard: &mut [Noted<'_>], i: usize) -> bool
+fn bring(logged: &LoggedEntry<'_>, heard: &mut [LoggedEntry<'_>], i: usize) -> bool
     requires place { i < length heard.old }
     requires sorted { IsNonDecreasingBy ticket_of heard.old }
-    requires behind { (d : Noted) → ticket_of noted.now ≤ ticket_of (slice_index_or heard.old i d) }
+    requires behind { (d : LoggedEntry) → ticket_of logged.now ≤ ticket_of (slice_index_or heard.old i d) }
     ensures order { IsPermutation heard.old heard.new }
     ensures sorted { IsNonDecreasingBy ticket_of heard.new }
     ensures before { take i heard.new ≡ take i heard.old }
     ensures len { length heard.new ≡ length heard.old }
-    ensures found { IsTrue result → (d : Noted) × ((slice_index_or heard.new i d ≡ d) × (shown d ≡ shown noted.now)) }
-    ensures missing { IsFalse result → Contains (drop i (map shown heard.old)) (shown noted.now) → ⊥ }
+    ensures found { IsTrue result → (d : LoggedEntry) × ((slice_index_or heard.new i d ≡ d) × (shown d ≡ shown logged.now)) }
+    ensures missing { IsFalse result → Contains (drop i (map shown heard.old)) (shown logged.now) → ⊥ }
 {
     for j in i..heard.len() {
-        if heard[j].ticket != noted.ticket {
+        if heard[j].ticket != logged.ticket {
             return false;
         }
-        if heard[j].is(noted) {
+        if heard[j].is(logged) {
             heard.swap(i, j);
             return true;
         }

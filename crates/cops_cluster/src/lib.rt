@@ -9,7 +9,7 @@ mod closing;
 mod cluster;
 mod differing;
 mod fault;
-mod noted;
+mod logged;
 mod receiving;
 mod refusal;
 mod share;

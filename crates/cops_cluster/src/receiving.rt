@@ -2,13 +2,13 @@
 //! settlements.
 ghost use Rattle.std.specs.Prelude.{◌≡◌};
 ghost use Rattle.cops_cluster.specs.Receiving.{IsAskedOf, outcome_of};
-ghost use Rattle.cops_cluster.specs.Replies.{IsReplyOfSeen};
+ghost use Rattle.cops_cluster.specs.Replies.{IsReplyIn};
 
 use crate::cluster::Cluster;
 use crate::fault::Stop;
 use crate::share::Share;
 use crate::spot::Spot;
-use crate::stepping::{CopiedOutcome, NodeReply, gained, passed};
+use crate::stepping::{NodeReply, gained, passed};
 use cops_node::{Book, Node, NodeEvent, Outcome, Recorded};
 use cops_types::{Dep, Gate, GateHeld, Key, PutRecord, Refusal, Version};
 use std::sync::Wait;
@@ -188,7 +188,7 @@ impl Cluster {
             return Ok(Outcome::Refused(self.refusal_of_no_node(dc)));
         };
         let answered = self.mark_step(rt, share, gate, spot, version, dep, yes);
-        passed(rt, gate, RECEIVER, replied(spot.number(), answered))
+        passed(rt, gate, RECEIVER, reply_in(answered))
     }
 
     /// Settles a put that waits at the node of its version in data centre `dc`.
@@ -251,7 +251,7 @@ impl Cluster {
         ensures held { OnErr result (MayHoldStep (G.may_hold gate.now) (node_number spot.dc spot.place) RECEIVER) }
     {
         let answered = self.step(rt, share, gate, RECEIVER, spot, event);
-        passed(rt, gate, RECEIVER, replied(spot.number(), answered))
+        passed(rt, gate, RECEIVER, reply_in(answered))
     }
 
     /// A mark at a node, which it locks.
@@ -264,12 +264,13 @@ impl Cluster {
         version: Version,
         dep: u16,
         yes: &Yes,
-    ) -> Result<CopiedOutcome, Stop>
+    ) -> Result<(NodeReply, Outcome), Stop>
         requires { IsNode self.now spot.dc spot.place }
         ensures owner { share.new.holder ≡ share.old.holder }
-        ensures reported { IfOk result (λ t. AddsEntry share.old.entries.items share.new.entries.items (node_number spot.dc spot.place) (Mark version dep) t.outcome) }
-        ensures answers { IfOk result (λ t. (t.seen ≡ t.outcome) × (is_of_node t.outcome ≡ true)) }
-        ensures allowed { IfOk result (λ t. IsAllowedMark yes.now spot.dc version dep t.outcome) }
+        ensures reported { IfOk result (λ t. AddsEntry share.old.entries.items share.new.entries.items (node_number spot.dc spot.place) (Mark version dep) t.0.outcome) }
+        ensures own { IfOk result (λ t. is_of_node t.0.outcome ≡ true) }
+        ensures node { IfOk result (λ t. t.0.node ≡ node_number spot.dc spot.place) }
+        ensures allowed { IfOk result (λ t. IsAllowedMark yes.now spot.dc version dep t.0.outcome) }
         ensures stops { IfErr result (StopsWith (IsUnaskedMark yes.now spot.dc version dep)) }
         ensures none { OnErr result (share.new.entries.items ≡ share.old.entries.items) }
         ensures stop { IfErr result (IsStop (G.may_hold gate.now) (node_number spot.dc spot.place) RECEIVER) }
@@ -324,15 +325,15 @@ fn asked_of(dc: u8, key: Key, version: Version, outcome: Outcome) -> Asked
     }
 }
 
-/// A node's answer together with the node's number.
-fn replied(node: u16, answered: Result<CopiedOutcome, Stop>) -> Result<NodeReply, Stop>
-    ensures { IsReplyOfSeen node answered result }
+/// The node's reply, without the copy of its outcome.
+fn reply_in(answered: Result<(NodeReply, Outcome), Stop>) -> Result<NodeReply, Stop>
+    ensures { IsReplyIn answered result }
 {
     match answered {
-        Ok(seen) => Ok(NodeReply {
-            outcome: seen.outcome,
-            node,
-        }),
+        Ok((reply, seen)) => {
+            drop(seen);
+            Ok(reply)
+        }
         Err(stop) => Err(stop),
     }
 }

@@ -22,21 +22,6 @@ use std::alloc::AllocError;
 use std::sync::Wait;
 use std::sync::atomic::Ordering;
 
-/// What a node answered, and a copy of it.
-#[derive(Drop)]
-pub(crate) struct CopiedOutcome {
-    pub(crate) outcome: Outcome,
-    pub(crate) seen: Outcome,
-}
-
-/// What a node answered to a client, and the operation that the client saw, if any.
-#[derive(Drop)]
-pub(crate) struct ClientAnswer {
-    pub(crate) outcome: Outcome,
-    pub(crate) node: u16,
-    pub(crate) op: Option<Op>,
-}
-
 /// A node's answer with the node's number.
 #[derive(Drop)]
 pub(crate) struct NodeReply {
@@ -49,13 +34,13 @@ pub(crate) struct NodeReply {
 #[derive(Drop)]
 struct WriteCopies {
     deps: Deps,
-    summaries: WriteSummaries,
+    kept_back: KeptOfWrite,
 }
 
 /// What is kept of a write until the node answers: the key for the client's context, and the key and content for the
 /// operation that it saw. A write without a content is a deletion.
 #[derive(Drop)]
-struct WriteSummaries {
+struct KeptOfWrite {
     pair_key: Key,
     key: Key,
     content: Option<Value>,
@@ -63,33 +48,33 @@ struct WriteSummaries {
 
 /// The event that a write sends to the node, and what is kept until the node answers.
 #[derive(Drop)]
-struct WriteReported {
+struct WriteRequest {
     event: NodeEvent,
-    summaries: WriteSummaries,
+    kept_back: KeptOfWrite,
 }
 
 /// What is kept of a get until the node answers: the key for the client's context, and the key for the operation that
 /// it saw.
 #[derive(Drop)]
-struct GetSummaries {
+struct KeptOfGet {
     pair_key: Key,
     key: Key,
 }
 
 /// The event that a get sends to the node, and what is kept until the node answers.
 #[derive(Drop)]
-struct GetReported {
+struct GetRequest {
     event: NodeEvent,
-    summaries: GetSummaries,
+    kept_back: KeptOfGet,
 }
 
 fn write_copies(client: &Client, key: &Key, content: Option<&Value>) -> Result<WriteCopies, Memory>
     ensures deps { IfOk result (λ c. c.deps ≡ client.now.context.pairs) }
-    ensures noted { IfOk result (λ c. (c.summaries.pair_key ≡ key.now) × (c.summaries.key ≡ key.now) × (c.summaries.content ≡ option_copied content.entry)) }
+    ensures logged { IfOk result (λ c. (c.kept_back.pair_key ≡ key.now) × (c.kept_back.key ≡ key.now) × (c.kept_back.content ≡ option_copied content.entry)) }
 {
     let deps = client.context.deps()?;
-    match write_summaries(key, content) {
-        Ok(summaries) => Ok(WriteCopies { deps, summaries }),
+    match kept_of_write(key, content) {
+        Ok(kept_back) => Ok(WriteCopies { deps, kept_back }),
         Err(fault) => {
             drop(deps);
             Err(Memory::from(fault))
@@ -97,25 +82,21 @@ fn write_copies(client: &Client, key: &Key, content: Option<&Value>) -> Result<W
     }
 }
 
-fn write_summaries(key: &Key, content: Option<&Value>) -> Result<WriteSummaries, AllocError>
-    ensures { IfOk result (λ summaries. (summaries.pair_key ≡ key.now) × (summaries.key ≡ key.now) × (summaries.content ≡ option_copied content.entry)) }
+fn kept_of_write(key: &Key, content: Option<&Value>) -> Result<KeptOfWrite, AllocError>
+    ensures { IfOk result (λ kept_back. (kept_back.pair_key ≡ key.now) × (kept_back.key ≡ key.now) × (kept_back.content ≡ option_copied content.entry)) }
 {
-    Ok(WriteSummaries {
+    Ok(KeptOfWrite {
         pair_key: key.clone()?,
         key: key.clone()?,
         content: content_copy(content)?,
     })
 }
 
-fn write_reported(
-    client: &Client,
-    key: Key,
-    content: Option<Value>,
-) -> Result<WriteReported, Memory>
+fn write_request(client: &Client, key: Key, content: Option<Value>) -> Result<WriteRequest, Memory>
     ensures event { IfOk result (λ t. t.event ≡ write_event client.now.number key content client.now.context.pairs) }
-    ensures noted { IfOk result (λ t. (t.summaries.pair_key ≡ key) × (t.summaries.key ≡ key) × (t.summaries.content ≡ content)) }
+    ensures logged { IfOk result (λ t. (t.kept_back.pair_key ≡ key) × (t.kept_back.key ≡ key) × (t.kept_back.content ≡ content)) }
 {
-    let WriteCopies { deps, summaries } = match write_copies(client, &key, content.as_ref()) {
+    let WriteCopies { deps, kept_back } = match write_copies(client, &key, content.as_ref()) {
         Ok(copies) => copies,
         Err(fault) => {
             drop(key);
@@ -124,7 +105,7 @@ fn write_reported(
         }
     };
     let event = event_of(client.number, key, content, deps);
-    Ok(WriteReported { event, summaries })
+    Ok(WriteRequest { event, kept_back })
 }
 
 /// The event for a client's write: a put of the content, or a deletion where there is none.
@@ -156,23 +137,23 @@ fn written(key: Key, content: Option<Value>, version: Version) -> Op
     }
 }
 
-fn get_summaries(key: &Key) -> Result<GetSummaries, AllocError>
-    ensures { IfOk result (λ summaries. (summaries.pair_key ≡ key.now) × (summaries.key ≡ key.now)) }
+fn kept_of_get(key: &Key) -> Result<KeptOfGet, AllocError>
+    ensures { IfOk result (λ kept_back. (kept_back.pair_key ≡ key.now) × (kept_back.key ≡ key.now)) }
 {
-    Ok(GetSummaries {
+    Ok(KeptOfGet {
         pair_key: key.clone()?,
         key: key.clone()?,
     })
 }
 
-fn get_reported(client: u16, key: Key) -> Result<GetReported, Memory>
+fn get_request(client: u16, key: Key) -> Result<GetRequest, Memory>
     ensures event { IfOk result (λ t. t.event ≡ Get client key) }
-    ensures noted { IfOk result (λ t. (t.summaries.pair_key ≡ key) × (t.summaries.key ≡ key)) }
+    ensures logged { IfOk result (λ t. (t.kept_back.pair_key ≡ key) × (t.kept_back.key ≡ key)) }
 {
-    match get_summaries(&key) {
-        Ok(summaries) => {
+    match kept_of_get(&key) {
+        Ok(kept_back) => {
             let event = NodeEvent::Get { client, key };
-            Ok(GetReported { event, summaries })
+            Ok(GetRequest { event, kept_back })
         }
         Err(fault) => {
             drop(key);
@@ -197,7 +178,7 @@ impl Cluster {
     ghost use Rattle.cops_cluster.specs.Shares.{Adds, AddsAtMostOne, AddsEntry, is_refusal_of_node, is_of_node};
     ghost use Rattle.cops_cluster.specs.Cluster.{IsNode, IsSameClient, IsStop, MayHoldStep, after_get, after_write, get_seen, node_of, write_event, write_seen};
     ghost use Rattle.cops_cluster.specs.Outcomes.{IsDelOutcome, IsGetOutcome, IsNodeAnswer, IsPutOutcome, IsUnaskedGet, IsUnaskedWrite, IsUnknown, IsOutOfMemory, IsWriteOutcome, StopsWith};
-    ghost use Rattle.cops_cluster.specs.Replies.{IsSpent};
+    ghost use Rattle.cops_cluster.specs.Replies.{IsReplyIn};
 
     /// Puts a value for a client.
     ///
@@ -358,7 +339,8 @@ impl Cluster {
             && client.context.format() == self.format
     }
 
-    /// A write, with a slot already reserved for it.
+    /// A write, with a slot already reserved for it. Returns the node's reply, and the operation that the client saw,
+    /// if any.
     fn write_step<R: Wait, G: Gate>(
         &self,
         rt: &R,
@@ -366,14 +348,15 @@ impl Cluster {
         gate: &G,
         key: Key,
         content: Option<Value>,
-    ) -> Result<ClientAnswer, Stop>
+    ) -> Result<(NodeReply, Option<Op>), Stop>
         requires { client.old.dc < self.now.place.dcs }
         ensures owner { IsSameClient client.old client.new }
-        ensures reported { IfOk result (λ a. AddsEntry client.old.share.entries.items client.new.share.entries.items (node_of self.now client.old.dc key) (write_event client.old.number key content client.old.context.pairs) a.outcome) }
-        ensures answers { IfOk result (λ a. (is_of_node a.outcome ≡ true) × (a.node ≡ node_of self.now client.old.dc key)) }
-        ensures context { IfOk result (λ a. client.new.context.pairs ≡ after_write client.old.context.pairs key a.outcome) }
-        ensures seen { IfOk result (λ a. option_map operation_of a.op ≡ write_seen key content a.outcome) }
-        ensures outcome { IfOk result (λ a. IsWriteOutcome content a.outcome) }
+        ensures reported { IfOk result (λ a. AddsEntry client.old.share.entries.items client.new.share.entries.items (node_of self.now client.old.dc key) (write_event client.old.number key content client.old.context.pairs) a.0.outcome) }
+        ensures own { IfOk result (λ a. is_of_node a.0.outcome ≡ true) }
+        ensures node { IfOk result (λ a. a.0.node ≡ node_of self.now client.old.dc key) }
+        ensures context { IfOk result (λ a. client.new.context.pairs ≡ after_write client.old.context.pairs key a.0.outcome) }
+        ensures seen { IfOk result (λ a. option_map operation_of a.1 ≡ write_seen key content a.0.outcome) }
+        ensures outcome { IfOk result (λ a. IsWriteOutcome content a.0.outcome) }
         ensures stops { IfErr result (StopsWith IsOutOfMemory) }
         ensures none { OnErr result (client.new.share.entries.items ≡ client.old.share.entries.items) }
         ensures kept { OnErr result (client.new.context.pairs ≡ client.old.context.pairs) }
@@ -383,37 +366,38 @@ impl Cluster {
             unreachable!()
         };
         let number = client.number;
-        let WriteReported { event, summaries } = write_reported(client, key, content)?;
+        let WriteRequest { event, kept_back } = write_request(client, key, content)?;
         match self.step(rt, &mut client.share, gate, number, spot, event) {
-            Ok(CopiedOutcome { outcome, seen }) => {
-                let op = client.wrote(summaries, &seen);
+            Ok((reply, seen)) => {
+                let op = client.wrote(kept_back, &seen);
                 drop(seen);
-                let node = spot.number();
-                Ok(ClientAnswer { outcome, node, op })
+                Ok((reply, op))
             }
             Err(stop) => {
-                drop(summaries);
+                drop(kept_back);
                 Err(stop)
             }
         }
     }
 
-    /// A get, with a slot already reserved for it.
+    /// A get, with a slot already reserved for it. Returns the node's reply, and the operation that the client saw,
+    /// if any.
     fn get_step<R: Wait, G: Gate>(
         &self,
         rt: &R,
         client: &mut Client,
         gate: &G,
         key: Key,
-    ) -> Result<ClientAnswer, Stop>
+    ) -> Result<(NodeReply, Option<Op>), Stop>
         requires dc { client.old.dc < self.now.place.dcs }
         requires format { client.old.context.format ≡ self.now.format }
         ensures owner { IsSameClient client.old client.new }
-        ensures reported { IfOk result (λ a. AddsEntry client.old.share.entries.items client.new.share.entries.items (node_of self.now client.old.dc key) (Get client.old.number key) a.outcome) }
-        ensures answers { IfOk result (λ a. (is_of_node a.outcome ≡ true) × (a.node ≡ node_of self.now client.old.dc key)) }
-        ensures context { IfOk result (λ a. client.new.context.pairs ≡ after_get client.old.context.pairs key a.outcome) }
-        ensures seen { IfOk result (λ a. option_map operation_of a.op ≡ get_seen key a.outcome) }
-        ensures outcome { IfOk result (λ a. IsGetOutcome a.outcome) }
+        ensures reported { IfOk result (λ a. AddsEntry client.old.share.entries.items client.new.share.entries.items (node_of self.now client.old.dc key) (Get client.old.number key) a.0.outcome) }
+        ensures own { IfOk result (λ a. is_of_node a.0.outcome ≡ true) }
+        ensures node { IfOk result (λ a. a.0.node ≡ node_of self.now client.old.dc key) }
+        ensures context { IfOk result (λ a. client.new.context.pairs ≡ after_get client.old.context.pairs key a.0.outcome) }
+        ensures seen { IfOk result (λ a. option_map operation_of a.1 ≡ get_seen key a.0.outcome) }
+        ensures outcome { IfOk result (λ a. IsGetOutcome a.0.outcome) }
         ensures stops { IfErr result (StopsWith (IsUnaskedGet self.now.format (length client.old.context.pairs))) }
         ensures full { most_deps self.now.format ≤ length client.old.context.pairs → result ≡ Err (Refused ContextFull) }
         ensures none { OnErr result (client.new.share.entries.items ≡ client.old.share.entries.items) }
@@ -428,15 +412,14 @@ impl Cluster {
             }
         };
         let number = client.number;
-        let GetReported { event, summaries } = get_reported(number, key)?;
+        let GetRequest { event, kept_back } = get_request(number, key)?;
         match self.step(rt, &mut client.share, gate, number, spot, event) {
-            Ok(CopiedOutcome { outcome, seen }) => {
-                let op = client.saw(summaries.pair_key, summaries.key, seen);
-                let node = spot.number();
-                Ok(ClientAnswer { outcome, node, op })
+            Ok((reply, seen)) => {
+                let op = client.saw(kept_back.pair_key, kept_back.key, seen);
+                Ok((reply, op))
             }
             Err(stop) => {
-                drop(summaries);
+                drop(kept_back);
                 Err(stop)
             }
         }
@@ -471,17 +454,17 @@ impl Cluster {
         &self,
         rt: &R,
         slot: Slot,
-        answered: Result<ClientAnswer, Stop>,
+        answered: Result<(NodeReply, Option<Op>), Stop>,
     ) -> Result<NodeReply, Stop>
-        ensures { IsSpent answered result }
+        ensures { IsReplyIn answered result }
     {
         match answered {
-            Ok(ClientAnswer { outcome, node, op }) => {
+            Ok((reply, op)) => {
                 match op {
                     Some(op) => self.recorder.fill(rt, slot, op),
                     None => self.recorder.cancel(rt, slot),
                 }
-                Ok(NodeReply { outcome, node })
+                Ok(reply)
             }
             Err(stop) => {
                 self.recorder.cancel(rt, slot);
@@ -490,7 +473,8 @@ impl Cluster {
         }
     }
 
-    /// Runs one step of a node, which it locks, and adds the step's entry to the holder's share.
+    /// Runs one step of a node, which it locks, and adds the step's entry to the holder's share. Returns the node's
+    /// reply, and a copy of its outcome.
     pub(crate) fn step<R: Wait, G: Gate>(
         &self,
         rt: &R,
@@ -499,12 +483,14 @@ impl Cluster {
         client: u16,
         spot: Spot,
         event: NodeEvent,
-    ) -> Result<CopiedOutcome, Stop>
+    ) -> Result<(NodeReply, Outcome), Stop>
         requires { IsNode self.now spot.dc spot.place }
         ensures owner { share.new.holder ≡ share.old.holder }
-        ensures reported { IfOk result (λ t. AddsEntry share.old.entries.items share.new.entries.items (node_number spot.dc spot.place) event t.outcome) }
-        ensures answers { IfOk result (λ t. (t.seen ≡ t.outcome) × (is_of_node t.outcome ≡ true)) }
-        ensures outcome { IfOk result (λ t. IsNodeAnswer event t.outcome) }
+        ensures reported { IfOk result (λ t. AddsEntry share.old.entries.items share.new.entries.items (node_number spot.dc spot.place) event t.0.outcome) }
+        ensures own { IfOk result (λ t. is_of_node t.0.outcome ≡ true) }
+        ensures node { IfOk result (λ t. t.0.node ≡ node_number spot.dc spot.place) }
+        ensures copy { IfOk result (λ t. t.1 ≡ t.0.outcome) }
+        ensures outcome { IfOk result (λ t. IsNodeAnswer event t.0.outcome) }
         ensures stops { IfErr result (StopsWith IsOutOfMemory) }
         ensures none { OnErr result (share.new.entries.items ≡ share.old.entries.items) }
         ensures stop { IfErr result (IsStop (G.may_hold gate.now) (node_number spot.dc spot.place) client) }
@@ -559,21 +545,21 @@ impl Client {
 
     /// Handles the answer to the client's write. Returns the operation that it saw; after a version was given, the
     /// context has the write's pair alone.
-    fn wrote(&mut self, summaries: WriteSummaries, answer: &Outcome) -> Option<Op>
-        requires { summaries.pair_key ≡ summaries.key }
-        ensures context { self.new.context.pairs ≡ after_write self.old.context.pairs summaries.key answer.now }
-        ensures seen { option_map operation_of result ≡ write_seen summaries.key summaries.content answer.now }
+    fn wrote(&mut self, kept_back: KeptOfWrite, answer: &Outcome) -> Option<Op>
+        requires { kept_back.pair_key ≡ kept_back.key }
+        ensures context { self.new.context.pairs ≡ after_write self.old.context.pairs kept_back.key answer.now }
+        ensures seen { option_map operation_of result ≡ write_seen kept_back.key kept_back.content answer.now }
         ensures same { (self.new.number ≡ self.old.number) × (self.new.dc ≡ self.old.dc) × (self.new.share ≡ self.old.share) × (self.new.context.format ≡ self.old.context.format) }
     {
         let Some(version) = answer.version_given() else {
-            drop(summaries);
+            drop(kept_back);
             return None;
         };
-        let WriteSummaries {
+        let KeptOfWrite {
             pair_key,
             key,
             content,
-        } = summaries;
+        } = kept_back;
         self.context.replace(Dep {
             key: pair_key,
             version,
@@ -620,12 +606,14 @@ impl Client {
     }
 }
 
-/// Adds to the share the entry of a step of the node with this number.
-pub(crate) fn gained(share: &mut Share, node: u16, reported: Recorded) -> CopiedOutcome
+/// Adds to the share the entry of a step of the node with this number. Returns the node's reply, and a copy of its
+/// outcome.
+pub(crate) fn gained(share: &mut Share, node: u16, reported: Recorded) -> (NodeReply, Outcome)
     requires { vec_len share.old.entries < vec_capacity share.old.entries }
     ensures owner { share.new.holder ≡ share.old.holder }
     ensures entries { share.new.entries.items ≡ share.old.entries.items ++ made node reported.entry ∷ [] }
-    ensures answer { (result.outcome ≡ reported.outcome) × (result.seen ≡ reported.seen) }
+    ensures reply { (result.0.outcome ≡ reported.outcome) × (result.0.node ≡ node) }
+    ensures copy { result.1 ≡ reported.seen }
 {
     let Recorded {
         outcome,
@@ -633,7 +621,7 @@ pub(crate) fn gained(share: &mut Share, node: u16, reported: Recorded) -> Copied
         entry,
     } = reported;
     share.entries.push_reserved(Made { entry, node });
-    CopiedOutcome { outcome, seen }
+    (NodeReply { outcome, node }, seen)
 }
 
 /// The outcome that the caller gets, after the gate has let a node's answer pass.

@@ -135,7 +135,7 @@ fn a_link_of_one_frame(rt: HostRuntime) -> Result<(), Fail> {
     let (mut sender, mut taker) = link(rt.alloc(), 1)?;
     assert!(rt; takes_two(rt.alloc(), &mut sender, &mut taker)?);
     let Some(mut finished) = sender.finish() else {
-        return Err(Fail::new("nothing is told"));
+        return Err(Fail::new("nothing is reported"));
     };
     assert!(rt; left(&mut taker, &mut finished)? == (1, 2));
     assert!(rt; left(&mut taker, &mut finished)? == (0, 0));

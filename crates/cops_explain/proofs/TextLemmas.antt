@@ -4,7 +4,7 @@ use Rattle.std.specs.Prelude.{OnOk, codes, if◌then◌else◌, ◌==◌}
 use Rattle.cops_types.specs.declared.op.OpName.{OpName}
 use Rattle.cops_types.specs.Histories.{Sessions}
 use Rattle.cops_explain.specs.Operations.{reported_lines}
-use Rattle.cops_explain.specs.Paragraphs.{bearers_text, more_others, others_text}
+use Rattle.cops_explain.specs.Paragraphs.{holders_text, more_others, others_text}
 use Rattle.cops_explain.specs.declared.limits.TheConstants.{MOST_OTHERS}
 
 -- three texts, the last by a call whose result is returned as it is
@@ -21,10 +21,10 @@ two (Err e) old one new x y a b = tt
 two (Ok v) old one new x y a b = b ∙ ap (λ (t : List ℕ). t ++ y) a ∙ append_assoc old x y
 
 -- puts with a version, where there are some
-pub some_bearers : {T E : Type 0} (h : Sessions) (puts : List OpName) (r : Result T E) (old one new : List ℕ) → (length puts == 0) ≡ false → one ≡ old ++ codes "of that version there is:\n"
-    → OnOk r (new ≡ one ++ others_text h puts) → OnOk r (new ≡ old ++ bearers_text h puts)
-some_bearers h [] r old one new some a b = absurd cc
-some_bearers h (put ∷ puts) r old one new some a b = two r old one new (codes "of that version there is:\n") (others_text h (put ∷ puts)) a b
+pub some_holders : {T E : Type 0} (h : Sessions) (puts : List OpName) (r : Result T E) (old one new : List ℕ) → (length puts == 0) ≡ false → one ≡ old ++ codes "of that version there is:\n"
+    → OnOk r (new ≡ one ++ others_text h puts) → OnOk r (new ≡ old ++ holders_text h puts)
+some_holders h [] r old one new some a b = absurd cc
+some_holders h (put ∷ puts) r old one new some a b = two r old one new (codes "of that version there is:\n") (others_text h (put ∷ puts)) a b
 
 none_more : (n : ℕ) → n ≡ 0 → more_others n ≡ []
 none_more n none = rw none refl

@@ -19,7 +19,7 @@ use Rattle.cops_audit.specs.declared.fault.Fault.TheVariants.{Doubled, NoSource,
 use Rattle.cops_audit.specs.Faults.{fault_of_number, faults_of}
 use Rattle.cops_explain.specs.Others.{AreOthers, IsOther}
 use Rattle.cops_explain.specs.Paragraphs.{IsParagraph, doubled_text, no_source_text, stale_text}
-use Rattle.cops_explain.specs.Explained.{AreParagraphs, IsExplained, ReportsAsked, ReportsOne, first_line, later_text, more_text}
+use Rattle.cops_explain.specs.Explained.{AreParagraphs, IsExplained, ExplainsAsked, ExplainsOne, first_line, later_text, more_text}
 
 same_others : (h : Sessions) (name : OpName) (a b : List OpName) → AreOthers h name a → AreOthers h name b → a ≡ b
 same_others h name a b p q = one_listing (λ n. n) (IsOther h name) a b p q
@@ -35,11 +35,11 @@ same_paragraphs h number [] x y e f = e ∙ sym f
 same_paragraphs h number (fault ∷ faults) x y (a, u, p, e, more_x) (b, v, q, f, more_y) =
     e ∙ ap₂ (λ (s t : List ℕ). s ++ t) (same_paragraph h number fault a b p q) (same_paragraphs h (number + 1) faults u v more_x more_y) ∙ sym f
 
-same_one : (h : Sessions) (number : ℕ) (fault : Option Fault) (x y : List ℕ) → ReportsOne h number fault x → ReportsOne h number fault y → x ≡ y
+same_one : (h : Sessions) (number : ℕ) (fault : Option Fault) (x y : List ℕ) → ExplainsOne h number fault x → ExplainsOne h number fault y → x ≡ y
 same_one h number (Some fault) x y p q = same_paragraph h number fault x y p q
 same_one h number None x y e f = e ∙ sym f
 
-same_asked : (h : Sessions) (faults : List Fault) (asked : Selection) (x y : List ℕ) → ReportsAsked h faults asked x → ReportsAsked h faults asked y → x ≡ y
+same_asked : (h : Sessions) (faults : List Fault) (asked : Selection) (x y : List ℕ) → ExplainsAsked h faults asked x → ExplainsAsked h faults asked y → x ≡ y
 same_asked h faults First x y (a, p, e) (b, q, f) =
     e ∙ ap (λ (t : List ℕ). t ++ more_text (length faults - FIRST_FAULTS)) (same_paragraphs h 1 (take FIRST_FAULTS faults) a b p q) ∙ sym f
 same_asked h faults All x y p q = same_paragraphs h 1 faults x y p q
@@ -86,7 +86,7 @@ same_explanation : (h : Sessions) (v w : Verdict) (asked : Selection) (x y : Lis
 same_explanation h (Accepted a) (Accepted b) asked x y s e f = e ∙ sym f
 same_explanation h (Refused a) (Refused b) asked x y s (t, p, e) (u, q, f) =
     let same : faults_of a ≡ faults_of b = same_faults a b s in
-    let reported : t ≡ u = same_asked h (faults_of b) asked t u (subst (λ (fs : List Fault). ReportsAsked h fs asked t) same p) q in
+    let reported : t ≡ u = same_asked h (faults_of b) asked t u (subst (λ (fs : List Fault). ExplainsAsked h fs asked t) same p) q in
     e
     ∙ ap₂ (λ (fs : List Fault) (r : List ℕ). first_line (count_of h) (put_count h) (length fs) ⧺ r) same (ap₂ (λ (r l : List ℕ). r ⧺ l) reported (same_later a b s))
     ∙ sym f

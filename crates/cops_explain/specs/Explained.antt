@@ -53,25 +53,25 @@ abbrev pub none_text : ℕ → List ℕ
 none_text number = codes "\nthere is no fault " ⧺ decimal number ⧺ codes "\n"
 
 -- the paragraph of the fault with a number, or that there is none
-abbrev pub ReportsOne : Sessions → ℕ → Option Fault → List ℕ → Type 0
-ReportsOne h number (Some fault) text = IsParagraph h number fault text
-ReportsOne h number None text = text ≡ none_text number
+abbrev pub ExplainsOne : Sessions → ℕ → Option Fault → List ℕ → Type 0
+ExplainsOne h number (Some fault) text = IsParagraph h number fault text
+ExplainsOne h number None text = text ≡ none_text number
 
 -- the explanation of the faults that are asked for
-abbrev pub ReportsAsked : Sessions → List Fault → Selection → List ℕ → Type 0
-ReportsAsked h faults First text = (reported : List ℕ)
+abbrev pub ExplainsAsked : Sessions → List Fault → Selection → List ℕ → Type 0
+ExplainsAsked h faults First text = (reported : List ℕ)
     × AreParagraphs h 1 (take FIRST_FAULTS faults) reported × (text ≡ reported ++ more_text (length faults - FIRST_FAULTS))
-ReportsAsked h faults All text = AreParagraphs h 1 faults text
-ReportsAsked h faults (One number) text = ReportsOne h number (fault_of_number faults number) text
+ExplainsAsked h faults All text = AreParagraphs h 1 faults text
+ExplainsAsked h faults (One number) text = ExplainsOne h number (fault_of_number faults number) text
 
 -- the text gains the explanation of the faults that are asked for
 abbrev pub AddsAsked : Sessions → List Fault → Selection → List ℕ → List ℕ → Type 0
-AddsAsked h faults asked old new = (reported : List ℕ) × ReportsAsked h faults asked reported × (new ≡ old ++ reported)
+AddsAsked h faults asked old new = (reported : List ℕ) × ExplainsAsked h faults asked reported × (new ≡ old ++ reported)
 
 -- for an accepted history the line of the report; otherwise the numbers of operations, puts and faults, the explanation of the faults that are asked
 -- for, and the classes that were not looked for
 abbrev pub IsExplained : Sessions → Verdict → Selection → List ℕ → Type 0
 IsExplained h (Accepted puts) asked text = text ≡ accepted_line (count_of h) (put_count h)
 IsExplained h (Refused faults) asked text = (reported : List ℕ)
-    × ReportsAsked h (faults_of faults) asked reported
+    × ExplainsAsked h (faults_of faults) asked reported
     × (text ≡ first_line (count_of h) (put_count h) (length (faults_of faults)) ⧺ reported ⧺ later_text faults)

@@ -37,14 +37,14 @@ doubled_text h number name others =
     fault_head h number (codes "doubled") name (codes "no other put may have that version, and these do:\n") ⧺ others_text h others ⧺ DOUBLED.now
 
 -- the puts with the version that a get without a source returned
-abbrev pub bearers_text : Sessions → List OpName → List ℕ
-bearers_text h [] = codes "no put has that version\n"
-bearers_text h (put ∷ puts) = codes "of that version there is:\n" ⧺ others_text h (put ∷ puts)
+abbrev pub holders_text : Sessions → List OpName → List ℕ
+holders_text h [] = codes "no put has that version\n"
+holders_text h (put ∷ puts) = codes "of that version there is:\n" ⧺ others_text h (put ∷ puts)
 
 -- a get, and the puts with the version that it returned, whose keys or values differ
 abbrev pub no_source_text : Sessions → ℕ → OpName → List OpName → List ℕ
-no_source_text h number name bearers =
-    fault_head h number (codes "no source") name (codes "no put of the trace has that key, value and version\n") ⧺ bearers_text h bearers ⧺ NO_SOURCE.now
+no_source_text h number name holders =
+    fault_head h number (codes "no source") name (codes "no put of the trace has that key, value and version\n") ⧺ holders_text h holders ⧺ NO_SOURCE.now
 
 -- a put, and the first operation before it whose version it is not above
 abbrev pub not_above_text : Sessions → ℕ → ANotAbove → List ℕ
@@ -93,7 +93,7 @@ stale_text h number fault chain = stale_head h number fault ⧺ chain_text h cha
 -- the paragraph of a fault, by its class
 abbrev pub IsParagraph : Sessions → ℕ → Fault → List ℕ → Type 0
 IsParagraph h number (Doubled name) text = (others : List OpName) × AreOthers h name others × (text ≡ doubled_text h number name others)
-IsParagraph h number (NoSource name) text = (bearers : List OpName) × AreOthers h name bearers × (text ≡ no_source_text h number name bearers)
+IsParagraph h number (NoSource name) text = (holders : List OpName) × AreOthers h name holders × (text ≡ no_source_text h number name holders)
 IsParagraph h number (NotAbove fault) text = text ≡ not_above_text h number fault
 IsParagraph h number (Stale fault) text = (chain : List OpName) × IsFirstChain h fault.newer fault.op chain × (text ≡ stale_text h number fault chain)
 

@@ -28,7 +28,7 @@ fn class_of(role: Role) -> &'static str {
 }
 
 /// Writes the end of the first tag, with the size of the picture in pixels, and the parts that every picture has.
-pub fn push_page(out: &mut String, width: u32, maximum: u32) -> Result<(), AllocError>
+pub fn push_page(out: &mut String, width: u32, height: u32) -> Result<(), AllocError>
     ensures { OnOk result (Extends (string_bytes out.old) (string_bytes out.new)) }
 {
     write!(

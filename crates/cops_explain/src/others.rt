@@ -21,7 +21,7 @@ fn is_other(history: &History, name: OpName, version: Version, other: OpName) ->
 }
 
 /// The other puts with an operation's version, in the order of `puts`.
-fn bearers(
+fn holders(
     alloc: Global,
     history: &History,
     puts: &[VersionedPut],
@@ -55,7 +55,7 @@ pub fn others(
     requires version { HasSomeVersion history.now.sessions name }
     ensures { IfOk result (λ names. AreOthers history.now.sessions name names.items) }
 {
-    let mut names = bearers(alloc, history, puts, name)?;
+    let mut names = holders(alloc, history, puts, name)?;
     names.sort_unstable();
     names.dedup();
     Ok(names)

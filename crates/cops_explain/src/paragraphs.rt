@@ -3,7 +3,7 @@ ghost use Rattle.std.specs.Prelude.{◌≡◌, ◌++◌, OnOk, string_bytes};
 ghost use Rattle.cops_types.specs.Histories.{op_at};
 ghost use Rattle.cops_report.specs.Puts.{HasAllPuts};
 ghost use Rattle.cops_audit.specs.Faults.{IsFault};
-ghost use Rattle.cops_explain.specs.Paragraphs.{AddsParagraph, bearers_text, doubled_text, fault_head, known_text, more_others, no_source_text, not_above_text, others_text, place_text, returned_text, right_text, stale_end, stale_head, stale_return, stale_text, title};
+ghost use Rattle.cops_explain.specs.Paragraphs.{AddsParagraph, holders_text, doubled_text, fault_head, known_text, more_others, no_source_text, not_above_text, others_text, place_text, returned_text, right_text, stale_end, stale_head, stale_return, stale_text, title};
 
 use crate::causes;
 use crate::limits::MOST_OTHERS;
@@ -82,14 +82,14 @@ fn push_doubled(
 }
 
 /// Writes the puts with the version that a get without a source returned.
-fn push_bearers(out: &mut String, history: &History, bearers: &[OpName]) -> Result<(), AllocError>
-    ensures { OnOk result (string_bytes out.new ≡ string_bytes out.old ++ bearers_text history.now.sessions bearers.now) }
+fn push_holders(out: &mut String, history: &History, holders: &[OpName]) -> Result<(), AllocError>
+    ensures { OnOk result (string_bytes out.new ≡ string_bytes out.old ++ holders_text history.now.sessions holders.now) }
 {
-    if bearers.is_empty() {
+    if holders.is_empty() {
         return out.push_str("no put has that version\n");
     }
     out.push_str("of that version there is:\n")?;
-    push_others(out, history, bearers)
+    push_others(out, history, holders)
 }
 
 /// Writes a get, and the puts with the version that it returned.
@@ -98,14 +98,14 @@ fn push_no_source(
     history: &History,
     number: usize,
     name: OpName,
-    bearers: &[OpName],
+    holders: &[OpName],
 ) -> Result<(), AllocError>
     ensures { OnOk result (string_bytes out.new
-        ≡ string_bytes out.old ++ no_source_text history.now.sessions number name bearers.now) }
+        ≡ string_bytes out.old ++ no_source_text history.now.sessions number name holders.now) }
 {
     let words = "no put of the trace has that key, value and version\n";
     push_head(out, history, number, "no source", name, words)?;
-    push_bearers(out, history, bearers)?;
+    push_holders(out, history, holders)?;
     out.push_str(causes::NO_SOURCE)
 }
 
@@ -259,8 +259,8 @@ fn no_source(
     ensures { OnOk result
         (AddsParagraph history.now.sessions number (Fault.NoSource name) (string_bytes out.old) (string_bytes out.new)) }
 {
-    let bearers = others(alloc, history, puts, name)?;
-    push_no_source(out, history, number, name, &bearers)
+    let holders = others(alloc, history, puts, name)?;
+    push_no_source(out, history, number, name, &holders)
 }
 
 /// The paragraph of a stale get.

@@ -9,18 +9,18 @@ use Rattle.cops_import.specs.declared.fault.JsonLineFault.{JsonLineFault}
 use Rattle.cops_import.specs.declared.fault.JsonLineFault.TheVariants.{NoJson, NoClient, NoOperation, BothOperations, BadKey, BadValue, BadVersion, TooManyClients, TooManyOperations}
 use Rattle.cops_json.specs.declared.unread.Unread.{Unread}
 use Rattle.cops_json.specs.declared.unread.Unread.TheVariants.{Memory, Form}
-use Rattle.cops_import.specs.declared.line.Untold.{Untold}
-use Rattle.cops_import.specs.declared.line.Untold.TheVariants.{Fault, Memory as OutOfMemory}
+use Rattle.cops_import.specs.declared.line.NotGiven.{NotGiven}
+use Rattle.cops_import.specs.declared.line.NotGiven.TheVariants.{Fault, Memory as OutOfMemory}
 use Rattle.cops_import.specs.declared.line.Kind.{Kind}
 use Rattle.cops_import.specs.declared.line.Kind.TheVariants.{Put, Get}
 use Rattle.cops_json.specs.Json.{number_json}
-use Rattle.cops_import.specs.Line.{AsksKey, HasName, IsAsked, IsJson, IsWrong, IsWrongIn, ReportsOp}
-use Rattle.cops_import.specs.Asked.{IsKeyJson, IsWrongOf, ReportsKind}
+use Rattle.cops_import.specs.Line.{AsksKey, HasName, IsAsked, IsJson, IsWrong, IsWrongIn, GivesOp}
+use Rattle.cops_import.specs.Asked.{IsKeyJson, IsWrongOf, GivesKind}
 
 asks : (d : Data) (kind : Kind) (at : Data) (key : List ℕ) → IsAsked d kind at → IsKeyJson at key → AsksKey d kind key
 asks d kind at key asked is = (subst (λ (x : Data). IsAsked d kind x) is.0 asked, is.1)
 
-pub reports_of : (d : Data) (kind : Kind) (at : Data) (o : Op) → IsAsked d kind at → ReportsKind d kind at o → ReportsOp d o
+pub reports_of : (d : Data) (kind : Kind) (at : Data) (o : Op) → IsAsked d kind at → GivesKind d kind at o → GivesOp d o
 reports_of d Put at (op.Put key value version) asked reported = (asks d Put at key asked reported.0, reported.1, reported.2)
 reports_of d Put at _ asked reported = absurd reported
 reports_of d Get at (op.Got key value version) asked reported = (asks d Get at key asked reported.0, reported.1, reported.2)
@@ -39,7 +39,7 @@ wrong_of d kind at TooManyClients name asked wrong = absurd wrong
 wrong_of d kind at TooManyOperations name asked wrong = absurd wrong
 
 -- if a member is not read because of its form, the fault is the named one
-pub wrong_unread : (P : JsonLineFault → Type 0) (named fault : JsonLineFault) (unread : Unread) (r : Untold) → (unread ≡ Memory → r ≡ OutOfMemory) → (unread ≡ Form → r ≡ Fault named) → (unread ≡ Form → P named) → r ≡ Fault fault → P fault
+pub wrong_unread : (P : JsonLineFault → Type 0) (named fault : JsonLineFault) (unread : Unread) (r : NotGiven) → (unread ≡ Memory → r ≡ OutOfMemory) → (unread ≡ Form → r ≡ Fault named) → (unread ≡ Form → P named) → r ≡ Fault fault → P fault
 wrong_unread P named fault Memory r memory form wrong e = let m = memory refl in absurd cc
 wrong_unread P named fault Form r memory form wrong e = let f = form refl in let same : named ≡ fault = cc in subst P same (wrong refl)
 

@@ -6,7 +6,7 @@ use Rattle.cops_types.specs.Counted.{inner}
 use Rattle.cops_types.specs.declared.counted.Counted.{Counted}
 use Rattle.cops_import.specs.Faults.{IsFaultOf}
 use Rattle.cops_import.specs.Imports.{IsImport}
-use Rattle.cops_import.specs.Lines.{LinesReport, lines}
+use Rattle.cops_import.specs.Lines.{LinesGive, lines}
 use Rattle.cops_import.specs.Underway.{Finishes}
 use Rattle.cops_import.specs.declared.fault.ImportFault.{ImportFault}
 use Rattle.cops_import.specs.declared.imported.Imported.{Imported}
@@ -46,8 +46,8 @@ module _ {W : Type 0} (contents : W → Option (List ℕ)) (from : Counted W) wh
       → IfSome known (λ bytes. IsImport bytes (contents (inner from)) (contents (inner done.writer)) done.names done.operations)
   import_of_all None fed done is finished = tt
   import_of_all (Some bytes) fed done is finished = record {
-    tolds = finished.0;
-    report = subst (λ (b : List ℕ). LinesReport (lines b) finished.0) (sym is) finished.1;
+    given = finished.0;
+    report = subst (λ (b : List ℕ). LinesGive (lines b) finished.0) (sym is) finished.1;
     names_are = finished.2.names;
     counted = finished.2.operations;
     is_trace = finished.2.is_trace;

@@ -44,11 +44,11 @@ among_own names name = elim (cases_Bool (is_among names name)) [
 
 -- the names after those of these operations were added
 abbrev pub names_after : List (List ℕ) → List LineOp → List (List ℕ)
-names_after names tolds = fold (λ ns reported. with_name ns reported.name) names tolds
+names_after names given = fold (λ ns reported. with_name ns reported.name) names given
 
-among_after : (names : List (List ℕ)) (tolds : List LineOp) (name : List ℕ) → is_among names name ≡ true → is_among (names_after names tolds) name ≡ true
+among_after : (names : List (List ℕ)) (given : List LineOp) (name : List ℕ) → is_among names name ≡ true → is_among (names_after names given) name ≡ true
 among_after names [] name h = h
-among_after names (t ∷ tolds) name h = among_after (with_name names t.name) tolds name (among_with names name t.name h)
+among_after names (t ∷ given) name h = among_after (with_name names t.name) given name (among_with names name t.name h)
 
 number_before : (names : List (List ℕ)) (name other : List ℕ) → is_among names name ≡ true → number_of (names ++ other ∷ []) name ≡ number_of names name
 number_before [] name other h = absurd cc
@@ -68,15 +68,15 @@ number_with names name other h = go (is_among names other)
     go false = number_before names name other h
 
 -- records keep their clients
-pub records_kept : (names : List (List ℕ)) (tolds : List LineOp) (other : List ℕ)
-    → map (record_of (with_name (names_after names tolds) other)) tolds ≡ map (record_of (names_after names tolds)) tolds
+pub records_kept : (names : List (List ℕ)) (given : List LineOp) (other : List ℕ)
+    → map (record_of (with_name (names_after names given) other)) given ≡ map (record_of (names_after names given)) given
 records_kept names [] other = refl
-records_kept names (t ∷ tolds) other =
-    let all = names_after (with_name names t.name) tolds in
-    let there : is_among all t.name ≡ true = among_after (with_name names t.name) tolds t.name (among_own names t.name) in
+records_kept names (t ∷ given) other =
+    let all = names_after (with_name names t.name) given in
+    let there : is_among all t.name ≡ true = among_after (with_name names t.name) given t.name (among_own names t.name) in
     let client = number_with all t.name other there in
-    let rest = records_kept (with_name names t.name) tolds other in
-    ap (λ (k : ℕ). record { client = k; op = operation_of t.op } ∷ map (record_of (with_name all other)) tolds) client ∙ ap (λ (rs : List _). record_of all t ∷ rs) rest
+    let rest = records_kept (with_name names t.name) given other in
+    ap (λ (k : ℕ). record { client = k; op = operation_of t.op } ∷ map (record_of (with_name all other)) given) client ∙ ap (λ (rs : List _). record_of all t ∷ rs) rest
 
 -- a new name's number is its index at the end
 number_last : (names : List (List ℕ)) (name : List ℕ) → is_among names name ≡ false → number_of (names ++ name ∷ []) name ≡ number_of names name
@@ -95,5 +95,5 @@ number_own names name = elim (cases_Bool (is_among names name)) [
   | inr p ↦ ap (λ (b : Bool). number_of (cond b names (names ++ name ∷ [])) name) p ∙ number_last names name p
 ]
 
-pub names_more : (tolds : List LineOp) (reported : LineOp) → names_of (tolds ++ reported ∷ []) ≡ with_name (names_of tolds) reported.name
-names_more tolds reported = fold-append (λ (ns : List (List ℕ)) (t : LineOp). with_name ns t.name) [] tolds (reported ∷ [])
+pub names_more : (given : List LineOp) (reported : LineOp) → names_of (given ++ reported ∷ []) ≡ with_name (names_of given) reported.name
+names_more given reported = fold-append (λ (ns : List (List ℕ)) (t : LineOp). with_name ns t.name) [] given (reported ∷ [])

@@ -42,18 +42,18 @@ use Rattle.cops_import.proofs.Numbering.{names_more, number_own, records_kept}
 -- ---- the trace with one more operation
 
 abbrev entry : List LineOp → LineOp → ARecord
-entry tolds reported = record { client = number_of (names_of tolds) reported.name; op = operation_of reported.op }
+entry given reported = record { client = number_of (names_of given) reported.name; op = operation_of reported.op }
 
-pub trace_more : (clients : ℕ) (tolds : List LineOp) (reported : LineOp) → trace_to clients (tolds ++ reported ∷ []) ≡ grown (trace_to clients tolds) (entry tolds reported)
-trace_more clients tolds reported =
-    let names = names_of tolds in
+pub trace_more : (clients : ℕ) (given : List LineOp) (reported : LineOp) → trace_to clients (given ++ reported ∷ []) ≡ grown (trace_to clients given) (entry given reported)
+trace_more clients given reported =
+    let names = names_of given in
     let all = with_name names reported.name in
-    let more : map (record_of (names_of (tolds ++ reported ∷ []))) (tolds ++ reported ∷ []) ≡ map (record_of all) (tolds ++ reported ∷ []) =
-    ap (λ (ns : List (List ℕ)). map (record_of ns) (tolds ++ reported ∷ [])) (names_more tolds reported) in
-    let kept : map (record_of all) tolds ≡ map (record_of names) tolds = records_kept [] tolds reported.name in
-    let last : record_of all reported ≡ entry tolds reported = ap (λ (k : ℕ). record { client = k; op = operation_of reported.op }) (number_own names reported.name) in
+    let more : map (record_of (names_of (given ++ reported ∷ []))) (given ++ reported ∷ []) ≡ map (record_of all) (given ++ reported ∷ []) =
+    ap (λ (ns : List (List ℕ)). map (record_of ns) (given ++ reported ∷ [])) (names_more given reported) in
+    let kept : map (record_of all) given ≡ map (record_of names) given = records_kept [] given reported.name in
+    let last : record_of all reported ≡ entry given reported = ap (λ (k : ℕ). record { client = k; op = operation_of reported.op }) (number_own names reported.name) in
     ap (λ (rs : List ARecord). record { format = One; clients = clients; records = rs })
-    (more ∙ map-append (record_of all) tolds (reported ∷ []) ∙ ap (λ (rs : List ARecord). rs ++ record_of all reported ∷ []) kept ∙ ap (λ (r : ARecord). map (record_of names) tolds ++ r ∷ []) last)
+    (more ∙ map-append (record_of all) given (reported ∷ []) ∙ ap (λ (rs : List ARecord). rs ++ record_of all reported ∷ []) kept ∙ ap (λ (r : ARecord). map (record_of names) given ++ r ∷ []) last)
 
 -- ---- what is written
 
@@ -97,19 +97,19 @@ module _ {W : Type 0} (contents : W → Option (List ℕ)) (from : Counted W) wh
       (λ q. subst (λ (n : ℕ). Failed n (failures new.writer)) h.heard (failed q))
 
   -- one more operation was taken
-  pub taken_more : (tolds : List LineOp) (reported : LineOp) (old new : Importer W) (client : ℕ) → HasTaken contents from tolds old → new.clients ≡ old.clients
+  pub taken_more : (given : List LineOp) (reported : LineOp) (old new : Importer W) (client : ℕ) → HasTaken contents from given old → new.clients ≡ old.clients
       → new.names ≡ with_name old.names reported.name → new.operations ≡ min (old.operations + 1) 18446744073709551615 → client ≡ number_of old.names reported.name
-      → HasTurn old.writer.counts client → HasWritten contents from (grown (trace_to old.clients tolds) (record { client = client; op = operation_of reported.op })) new.writer
-      → HasTaken contents from (tolds ++ reported ∷ []) new
-  taken_more tolds reported old new client h clients names operations number room wrote =
-      let many : length (trace_to old.clients tolds).records ≡ length tolds = length-map tolds (record_of (names_of tolds)) in
-      let entered : client ≡ number_of (names_of tolds) reported.name = number ∙ ap (λ (ns : List (List ℕ)). number_of ns reported.name) h.names in
-      let trace : grown (trace_to old.clients tolds) (record { client = client; op = operation_of reported.op }) ≡ trace_to new.clients (tolds ++ reported ∷ []) =
-      ap (λ (k : ℕ). grown (trace_to old.clients tolds) (record { client = k; op = operation_of reported.op })) entered ∙ sym (trace_more old.clients tolds reported)
-      ∙ ap (λ (k : ℕ). trace_to k (tolds ++ reported ∷ [])) (sym clients) in
+      → HasTurn old.writer.counts client → HasWritten contents from (grown (trace_to old.clients given) (record { client = client; op = operation_of reported.op })) new.writer
+      → HasTaken contents from (given ++ reported ∷ []) new
+  taken_more given reported old new client h clients names operations number room wrote =
+      let many : length (trace_to old.clients given).records ≡ length given = length-map given (record_of (names_of given)) in
+      let entered : client ≡ number_of (names_of given) reported.name = number ∙ ap (λ (ns : List (List ℕ)). number_of ns reported.name) h.names in
+      let trace : grown (trace_to old.clients given) (record { client = client; op = operation_of reported.op }) ≡ trace_to new.clients (given ++ reported ∷ []) =
+      ap (λ (k : ℕ). grown (trace_to old.clients given) (record { client = k; op = operation_of reported.op })) entered ∙ sym (trace_more old.clients given reported)
+      ∙ ap (λ (k : ℕ). trace_to k (given ++ reported ∷ [])) (sym clients) in
       record {
-        names = names ∙ ap (λ (ns : List (List ℕ)). with_name ns reported.name) h.names ∙ sym (names_more tolds reported);
-        operations = omega (arith, operations, h.operations, length-append tolds (reported ∷ []), room.2, h.wrote.counts.total, many);
+        names = names ∙ ap (λ (ns : List (List ℕ)). with_name ns reported.name) h.names ∙ sym (names_more given reported);
+        operations = omega (arith, operations, h.operations, length-append given (reported ∷ []), room.2, h.wrote.counts.total, many);
         wrote = subst (λ (t : ATrace). HasWritten contents from t new.writer) trace wrote;
       }
 
@@ -141,15 +141,15 @@ module _ {W : Type 0} (contents : W → Option (List ℕ)) (from : Counted W) wh
   end_is : (t : ATrace) (c : ACounts) → AreCountsOf t c → text t ≡ beginning t ++ end_frame c
   end_is t c counts = ap (λ (n : ℕ). beginning t ++ encoded (TraceEnd n)) (sym counts.total)
 
-  pub ended_trace : (tolds : List LineOp) (i : Importer W) → HasTaken contents from tolds i → length i.names ≡ i.clients → IsTrace (trace_of tolds)
-  ended_trace tolds i h many = subst (λ (k : ℕ). IsTrace (trace_to k tolds)) (sym many ∙ ap length h.names) h.wrote.is_trace
+  pub ended_trace : (given : List LineOp) (i : Importer W) → HasTaken contents from given i → length i.names ≡ i.clients → IsTrace (trace_of given)
+  ended_trace given i h many = subst (λ (k : ℕ). IsTrace (trace_to k given)) (sym many ∙ ap length h.names) h.wrote.is_trace
 
-  pub ended_written : (tolds : List LineOp) (i : Importer W) (w : Counted W) → HasTaken contents from tolds i → length i.names ≡ i.clients
-      → Appends (contents (inner i.writer.writer)) (contents (inner w)) (end_frame i.writer.counts) → Appends (contents (inner from)) (contents (inner w)) (text (trace_of tolds))
-  ended_written tolds i w h many more =
-      let t = trace_to i.clients tolds in
-      let all : text (trace_to i.clients tolds) ≡ text (trace_of tolds) = ap (λ (k : ℕ). text (trace_to k tolds)) (sym many ∙ ap length h.names) in
-      appends_more (contents (inner from)) (contents (inner i.writer.writer)) (contents (inner w)) (beginning t) (end_frame i.writer.counts) (text (trace_of tolds)) h.wrote.appends more
+  pub ended_written : (given : List LineOp) (i : Importer W) (w : Counted W) → HasTaken contents from given i → length i.names ≡ i.clients
+      → Appends (contents (inner i.writer.writer)) (contents (inner w)) (end_frame i.writer.counts) → Appends (contents (inner from)) (contents (inner w)) (text (trace_of given))
+  ended_written given i w h many more =
+      let t = trace_to i.clients given in
+      let all : text (trace_to i.clients given) ≡ text (trace_of given) = ap (λ (k : ℕ). text (trace_to k given)) (sym many ∙ ap length h.names) in
+      appends_more (contents (inner from)) (contents (inner i.writer.writer)) (contents (inner w)) (beginning t) (end_frame i.writer.counts) (text (trace_of given)) h.wrote.appends more
       (sym (end_is t i.writer.counts h.wrote.counts) ∙ all)
 
   -- adding `count` bytes to a cut text does not overflow 64 bits
@@ -170,15 +170,15 @@ module _ {W : Type 0} (contents : W → Option (List ℕ)) (from : Counted W) wh
   left_ended t old w e h unwritten failed = left_of e w (end_cut t old w e h unwritten) (λ q. subst (λ (n : ℕ). Failed n (failures w)) h.heard (failed q))
 
 -- a client without a turn has no room for a record
-pub too_many : (clients : ℕ) (tolds : List LineOp) (reported : LineOp) (counts : ACounts) (client : ℕ) → AreCountsOf (trace_to clients tolds) counts → client ≡ number_of (names_of tolds) reported.name → client < clients
-    → (HasTurn counts client → ⊥) → length (names_of (tolds ++ reported ∷ [])) ≤ MAX_CLIENTS → IsTooMany tolds reported TooManyOperations
-too_many clients tolds reported counts client h number there full few =
-    let many : length (trace_to clients tolds).records ≡ length tolds = length-map tolds (record_of (names_of tolds)) in
-    let same : number_of (names_of (tolds ++ reported ∷ [])) reported.name ≡ client =
-    ap (λ (ns : List (List ℕ)). number_of ns reported.name) (names_more tolds reported) ∙ number_own (names_of tolds) reported.name ∙ sym number in (
+pub too_many : (clients : ℕ) (given : List LineOp) (reported : LineOp) (counts : ACounts) (client : ℕ) → AreCountsOf (trace_to clients given) counts → client ≡ number_of (names_of given) reported.name → client < clients
+    → (HasTurn counts client → ⊥) → length (names_of (given ++ reported ∷ [])) ≤ MAX_CLIENTS → IsTooMany given reported TooManyOperations
+too_many clients given reported counts client h number there full few =
+    let many : length (trace_to clients given).records ≡ length given = length-map given (record_of (names_of given)) in
+    let same : number_of (names_of (given ++ reported ∷ [])) reported.name ≡ client =
+    ap (λ (ns : List (List ℕ)). number_of ns reported.name) (names_more given reported) ∙ number_own (names_of given) reported.name ∙ sym number in (
       few,
       λ room.
-          let own : turn client (trace_of tolds).records < MAX_CLIENT_OPS = subst (λ (k : ℕ). turn k (trace_of tolds).records < MAX_CLIENT_OPS) same room.0 in
+          let own : turn client (trace_of given).records < MAX_CLIENT_OPS = subst (λ (k : ℕ). turn k (trace_of given).records < MAX_CLIENT_OPS) same room.0 in
           full (omega (arith, h.clients, there), omega (arith, h.next client, own), omega (arith, h.total, many, room.1)),
     )
 
@@ -187,9 +187,9 @@ pub write_says : (clients : ℕ) (bytes : List ℕ) (e : WriteFault) → IsFault
 write_says clients bytes write.Memory = tt
 write_says clients bytes (write.WriteFailed written) = tt
 
-pub write_stops : (clients : ℕ) (tolds : List LineOp) (e : WriteFault) → IsStopAtEnd clients tolds (fault_of e)
-write_stops clients tolds write.Memory = tt
-write_stops clients tolds (write.WriteFailed written) = tt
+pub write_stops : (clients : ℕ) (given : List LineOp) (e : WriteFault) → IsStopAtEnd clients given (fault_of e)
+write_stops clients given write.Memory = tt
+write_stops clients given (write.WriteFailed written) = tt
 
 -- a failed write is not a failed read
 pub write_device : (e : WriteFault) → fault_of e ≢ ReadFailed

@@ -14,8 +14,8 @@ use Rattle.cops_types.specs.Version.{IsVersion, clock_of, node_of}
 use Rattle.cops_types.specs.declared.op.Op.{Op}
 use Rattle.cops_types.specs.declared.op.Op.TheVariants as op
 use Rattle.cops_json.specs.Json.{text_json}
-use Rattle.cops_import.specs.Line.{AsksKey, FoundNothing, IsAsked, IsFaulty, IsJson, IsNameJson, IsVersionJson, IsWrong, IsWrongIn, LacksValue, LacksVersion, LineReports, Reports, ReportsName, ReportsOp, ReportsValue, ReportsVersion, TextReports}
-use Rattle.cops_import.specs.Lines.{ReportAfter, with_reported}
+use Rattle.cops_import.specs.Line.{AsksKey, FoundNothing, IsAsked, IsFaulty, IsJson, IsNameJson, IsVersionJson, IsWrong, IsWrongIn, LacksValue, LacksVersion, LineGives, Gives, GivesName, GivesOp, GivesValue, GivesVersion, TextGives}
+use Rattle.cops_import.specs.Lines.{GiveAfter, with_reported}
 use Rattle.cops_import.specs.declared.fault.JsonLineFault.{JsonLineFault}
 use Rattle.cops_import.specs.declared.fault.JsonLineFault.TheVariants.{NoJson, NoClient, NoOperation, BothOperations, BadKey, BadValue, BadVersion, TooManyClients, TooManyOperations}
 use Rattle.cops_import.specs.declared.line.Kind.{Kind}
@@ -31,7 +31,7 @@ name_in a b x (inl p) (inr q) = let e = q.1 in absurd cc
 name_in a b x (inr p) (inl q) = let e = p.1 in absurd cc
 name_in a b x (inr p) (inr q) = let e = p.1 in let f = q.1 in let same : p.0 ≡ q.0 = cc in p.2 ∙ ap decimal same ∙ sym q.2
 
-name_one : (d : Data) (a b : List ℕ) → ReportsName d a → ReportsName d b → a ≡ b
+name_one : (d : Data) (a b : List ℕ) → GivesName d a → GivesName d b → a ≡ b
 name_one d a b p q =
     let e = p.1 in
     let f = q.1 in
@@ -69,17 +69,17 @@ version_in v w x is also (inr (inr p)) (inl q) = absurd cc
 version_in v w x is also (inr (inr p)) (inr (inl q)) = let f = q.0 in absurd cc
 version_in v w x is also (inr (inr p)) (inr (inr q)) = let c : clock_of v ≡ clock_of w = cc in let n : node_of v ≡ node_of w = cc in same_version v w c n
 
-version_one : (d : Data) (v w : ℕ) → ReportsVersion d v → ReportsVersion d w → v ≡ w
+version_one : (d : Data) (v w : ℕ) → GivesVersion d v → GivesVersion d w → v ≡ w
 version_one d v w p q =
     let e = p.1 in
     let f = q.1 in
     let same : p.0 ≡ q.0 = cc in
     version_in v w q.0 p.3 q.3 (subst (IsVersionJson v) same p.2) q.2
 
-value_one : (d : Data) (a b : List ℕ) → ReportsValue d a → ReportsValue d b → a ≡ b
+value_one : (d : Data) (a b : List ℕ) → GivesValue d a → GivesValue d b → a ≡ b
 value_one d a b p q = let e = p.0 in let f = q.0 in cc
 
-something : (d : Data) (value : List ℕ) → ReportsValue d value → FoundNothing d → ⊥
+something : (d : Data) (value : List ℕ) → GivesValue d value → FoundNothing d → ⊥
 something d value reported found = let e = reported.0 in let f = found.0 in cc
 
 -- ---- at most one operation
@@ -93,7 +93,7 @@ asked_one d Get Get x y p q = (refl, let e = p.1 in let f = q.1 in cc)
 key_one : (d : Data) (k l : Kind) (a b : List ℕ) → AsksKey d k a → AsksKey d l b → (k ≡ l) × (a ≡ b)
 key_one d k l a b p q = let one = asked_one d k l (text_json a) (text_json b) p.0 q.0 in let e = one.1 in (one.0, cc)
 
-op_one : (d : Data) (a b : Op) → ReportsOp d a → ReportsOp d b → a ≡ b
+op_one : (d : Data) (a b : Op) → GivesOp d a → GivesOp d b → a ≡ b
 op_one d (op.Put k x v) (op.Put l y w) p q =
     let key : k ≡ l = (key_one d Put Put k l p.0 q.0).1 in
     let value : x ≡ y = value_one d x y p.1 q.1 in
@@ -116,7 +116,7 @@ op_one d a (op.Del l w) p q = absurd q
 op_one d a (op.Gone l w) p q = absurd q
 op_one d (op.Missed k) (op.Missed l) p q = let key : k ≡ l = (key_one d Get Get k l p.0 q.0).1 in cc
 
-reported_one : (d : Data) (a b : LineOp) → Reports d a → Reports d b → a ≡ b
+reported_one : (d : Data) (a b : LineOp) → Gives d a → Gives d b → a ≡ b
 reported_one d a b p q =
     let name : a.name ≡ b.name = name_one d a.name b.name p.0 q.0 in
     let ops : a.op ≡ b.op = op_one d a.op b.op p.1 q.1 in
@@ -126,29 +126,29 @@ json_one : (line : List ℕ) (d e : Data) → IsJson line d → IsJson line e �
 json_one line d e p q = let f = p.1 in let g = q.1 in cc
 
 -- two operations of one line are equal
-line_one : (line : List ℕ) (a b : Option LineOp) → LineReports line a → LineReports line b → a ≡ b
+line_one : (line : List ℕ) (a b : Option LineOp) → LineGives line a → LineGives line b → a ≡ b
 line_one line None None p q = refl
 line_one line None (Some b) p q = absurd (q.0 p)
 line_one line (Some a) None p q = absurd (p.0 q)
 line_one line (Some a) (Some b) p q =
     let same = json_one line p.1.0 q.1.0 p.1.1 q.1.1 in
-    ap Some (reported_one q.1.0 a b (subst (λ (d : Data). Reports d a) same p.1.2) q.1.2)
+    ap Some (reported_one q.1.0 a b (subst (λ (d : Data). Gives d a) same p.1.2) q.1.2)
 
-pub lines_one : (earlier : List LineOp) (ls : List (List ℕ)) (a b : List LineOp) → ReportAfter earlier ls a → ReportAfter earlier ls b → a ≡ b
+pub lines_one : (earlier : List LineOp) (ls : List (List ℕ)) (a b : List LineOp) → GiveAfter earlier ls a → GiveAfter earlier ls b → a ≡ b
 lines_one earlier [] a b p q = p ∙ sym q
 lines_one earlier (line ∷ ls) a b p q =
     let same = line_one line p.0 q.0 p.1 q.1 in
-    lines_one (with_reported earlier q.0) ls a b (subst (λ (t : Option LineOp). ReportAfter (with_reported earlier t) ls a) same p.2) q.2
+    lines_one (with_reported earlier q.0) ls a b (subst (λ (t : Option LineOp). GiveAfter (with_reported earlier t) ls a) same p.2) q.2
 
 -- ---- a line with an operation is not faulty
 
-op_kind : (d : Data) (o : Op) → ReportsOp d o → (kind : Kind) × (key : List ℕ) × AsksKey d kind key
+op_kind : (d : Data) (o : Op) → GivesOp d o → (kind : Kind) × (key : List ℕ) × AsksKey d kind key
 op_kind d (op.Put key value version) reported = (Put, key, reported.0)
 op_kind d (op.Got key value version) reported = (Get, key, reported.0)
 op_kind d (op.Missed key) reported = (Get, key, reported.0)
 op_kind d _ reported = absurd reported
 
-lacks_value : (d : Data) (o : Op) (kind : Kind) (key : List ℕ) → ReportsOp d o → AsksKey d kind key → LacksValue d kind → ⊥
+lacks_value : (d : Data) (o : Op) (kind : Kind) (key : List ℕ) → GivesOp d o → AsksKey d kind key → LacksValue d kind → ⊥
 lacks_value d (op.Put k x v) Put key reported asks lacks = lacks x reported.1
 lacks_value d (op.Put k x v) Get key reported asks lacks = let e : Put ≡ Get = (key_one d Put Get k key reported.0 asks).0 in absurd cc
 lacks_value d (op.Got k x v) Put key reported asks lacks = lacks x reported.1
@@ -157,7 +157,7 @@ lacks_value d (op.Missed k) Put key reported asks lacks = let e : Get ≡ Put = 
 lacks_value d (op.Missed k) Get key reported asks lacks = lacks.1 reported.1
 lacks_value d _ kind key reported asks lacks = absurd reported
 
-lacks_version : (d : Data) (o : Op) → ReportsOp d o → LacksVersion d → ⊥
+lacks_version : (d : Data) (o : Op) → GivesOp d o → LacksVersion d → ⊥
 lacks_version d (op.Put k x v) reported lacks = lacks.2 v reported.2
 lacks_version d (op.Got k x v) reported lacks = lacks.2 v reported.2
 lacks_version d (op.Missed k) reported lacks = something d lacks.0 lacks.1 reported.1
@@ -171,7 +171,7 @@ both : (d : Data) (kind : Kind) (x : Data) → IsAsked d kind x → get (codes "
 both d Put x asked p q = q asked.1
 both d Get x asked p q = p asked.0
 
-not_wrong : (d : Data) (reported : LineOp) (fault : JsonLineFault) → Reports d reported → IsWrong d fault → ⊥
+not_wrong : (d : Data) (reported : LineOp) (fault : JsonLineFault) → Gives d reported → IsWrong d fault → ⊥
 not_wrong d reported NoJson reports wrong = wrong
 not_wrong d reported NoClient reports wrong = wrong reported.name reports.0
 not_wrong d reported NoOperation reports wrong = let k = op_kind d reported.op reports.1 in neither d k.0 (text_json k.1) k.2.0 wrong.1 wrong.2
@@ -185,10 +185,10 @@ not_wrong d reported BadVersion reports wrong = lacks_version d reported.op repo
 not_wrong d reported TooManyClients reports wrong = wrong
 not_wrong d reported TooManyOperations reports wrong = wrong
 
-wrong_text : (line : List ℕ) (reported : LineOp) (fault : JsonLineFault) → TextReports line reported → (d : Data) × IsJson line d × IsWrong d fault → ⊥
-wrong_text line reported fault reports wrong = not_wrong wrong.0 reported fault (subst (λ (d : Data). Reports d reported) (json_one line reports.0 wrong.0 reports.1 wrong.1) reports.2) wrong.2
+wrong_text : (line : List ℕ) (reported : LineOp) (fault : JsonLineFault) → TextGives line reported → (d : Data) × IsJson line d × IsWrong d fault → ⊥
+wrong_text line reported fault reports wrong = not_wrong wrong.0 reported fault (subst (λ (d : Data). Gives d reported) (json_one line reports.0 wrong.0 reports.1 wrong.1) reports.2) wrong.2
 
-wrong_line : (line : List ℕ) (reported : LineOp) (fault : JsonLineFault) → TextReports line reported → IsWrongIn line fault → ⊥
+wrong_line : (line : List ℕ) (reported : LineOp) (fault : JsonLineFault) → TextGives line reported → IsWrongIn line fault → ⊥
 wrong_line line reported NoJson reports wrong = wrong reports.0 reports.1
 wrong_line line reported NoClient reports wrong = wrong_text line reported NoClient reports wrong
 wrong_line line reported NoOperation reports wrong = wrong_text line reported NoOperation reports wrong
@@ -199,6 +199,6 @@ wrong_line line reported BadVersion reports wrong = wrong_text line reported Bad
 wrong_line line reported TooManyClients reports wrong = wrong_text line reported TooManyClients reports wrong
 wrong_line line reported TooManyOperations reports wrong = wrong_text line reported TooManyOperations reports wrong
 
-pub not_faulty : (line : List ℕ) (reported : Option LineOp) (fault : JsonLineFault) → LineReports line reported → IsFaulty line fault → ⊥
+pub not_faulty : (line : List ℕ) (reported : Option LineOp) (fault : JsonLineFault) → LineGives line reported → IsFaulty line fault → ⊥
 not_faulty line None fault reports faulty = faulty.0 reports
 not_faulty line (Some reported) fault reports faulty = wrong_line line reported fault reports.1 faulty.1

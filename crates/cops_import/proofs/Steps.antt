@@ -5,8 +5,8 @@ use Rattle.std.proofs.lemmas.List.{length-append}
 use Rattle.std.proofs.lemmas.List.Elements.{All-nil, All-append}
 use Rattle.cops_types.specs.declared.counted.Counted.{Counted}
 use Rattle.cops_import.specs.Faults.{IsFaultOf}
-use Rattle.cops_import.specs.Line.{LineReports}
-use Rattle.cops_import.specs.Lines.{IsWithin, LinesReport, lines, with_reported}
+use Rattle.cops_import.specs.Line.{LineGives}
+use Rattle.cops_import.specs.Lines.{IsWithin, LinesGive, lines, with_reported}
 use Rattle.cops_import.specs.Underway.{HasLeft, HasStopped, HasTaken, IsStopAt, IsUnderway, TakesLine}
 use Rattle.cops_import.specs.declared.fault.ImportFault.{ImportFault}
 use Rattle.cops_import.specs.declared.fault.ImportFault.TheVariants.{Endless, Memory}
@@ -18,12 +18,12 @@ use Rattle.cops_import.proofs.Stops.{no_number, stops_here}
 
 module _ {W : Type 0} (contents : W → Option (List ℕ)) (from : Counted W) where
   -- a line feed came
-  pub line_ended : (fed : List ℕ) (old new : Importer W) (reported : Option LineOp) → (u : IsUnderway contents from fed old) → LineReports old.line.items reported → HasTaken contents from (with_reported u.tolds reported) new
+  pub line_ended : (fed : List ℕ) (old new : Importer W) (reported : Option LineOp) → (u : IsUnderway contents from fed old) → LineGives old.line.items reported → HasTaken contents from (with_reported u.given reported) new
       → new.line.items ≡ [] → new.ended ≡ old.ended + 1 → IsUnderway contents from (fed ++ 10 ∷ []) new
   line_ended fed old new reported u is taken none next = record {
     ended = u.ended ++ old.line.items ∷ [];
-    tolds = with_reported u.tolds reported;
-    report = report_more [] u.ended u.tolds old.line.items reported u.report is;
+    given = with_reported u.given reported;
+    report = report_more [] u.ended u.given old.line.items reported u.report is;
     counted = omega (arith, next, u.counted, length-append u.ended (old.line.items ∷ []));
     split = subst (Splits (fed ++ 10 ∷ []) (u.ended ++ old.line.items ∷ [])) (sym none) (split_ended fed u.ended old.line.items u.split u.within);
     within = subst IsWithin (sym none) (All-nil (λ (b : ℕ). (b == 10) ≡ false));
@@ -32,10 +32,10 @@ module _ {W : Type 0} (contents : W → Option (List ℕ)) (from : Counted W) wh
 
   -- a part of a line came
   pub part_taken : (fed part : List ℕ) (old new : Importer W) → (u : IsUnderway contents from fed old) → new.line.items ≡ old.line.items ++ part → IsWithin part → new.ended ≡ old.ended
-      → HasTaken contents from u.tolds new → IsUnderway contents from (fed ++ part) new
+      → HasTaken contents from u.given new → IsUnderway contents from (fed ++ part) new
   part_taken fed part old new u items within same taken = record {
     ended = u.ended;
-    tolds = u.tolds;
+    given = u.given;
     report = u.report;
     counted = same ∙ u.counted;
     split = subst (Splits (fed ++ part) u.ended) (sym items) (split_part fed u.ended old.line.items part u.split);
@@ -45,9 +45,9 @@ module _ {W : Type 0} (contents : W → Option (List ℕ)) (from : Counted W) wh
 
   -- the import stops at a line that a line feed ends
   pub stopped_here : (fed : List ℕ) (old : Importer W) (number : ℕ) (e : ImportFault) (w : Counted W) → (u : IsUnderway contents from fed old) → number ≡ old.ended + 1
-      → IsStopAt old.clients number u.tolds old.line.items e → HasLeft contents from e w → HasStopped contents from (fed ++ 10 ∷ []) e old.clients w
+      → IsStopAt old.clients number u.given old.line.items e → HasLeft contents from e w → HasStopped contents from (fed ++ 10 ∷ []) e old.clients w
   stopped_here fed old number e w u next stop left = record {
-    says = stops_here old.clients fed u.ended old.line.items u.tolds number e u.split u.within u.report (next ∙ ap (λ (n : ℕ). n + 1) u.counted) stop;
+    says = stops_here old.clients fed u.ended old.line.items u.given number e u.split u.within u.report (next ∙ ap (λ (n : ℕ). n + 1) u.counted) stop;
     left = left;
   }
 
@@ -77,17 +77,17 @@ module _ {W : Type 0} (contents : W → Option (List ℕ)) (from : Counted W) wh
   }
 
   -- all lines were taken
-  pub last_taken : (fed : List ℕ) (old mid : Importer W) → (u : IsUnderway contents from fed old) → TakesLine contents from u.tolds old.line.items mid
-      → (tolds : List LineOp) × LinesReport (lines fed) tolds × HasTaken contents from tolds mid
+  pub last_taken : (fed : List ℕ) (old mid : Importer W) → (u : IsUnderway contents from fed old) → TakesLine contents from u.given old.line.items mid
+      → (given : List LineOp) × LinesGive (lines fed) given × HasTaken contents from given mid
   last_taken fed old mid u took =
-      let tolds = with_reported u.tolds took.0 in
-      (tolds, subst (λ (ls : List (List ℕ)). LinesReport ls tolds) (sym (split_last fed u.ended old.line.items u.split u.within)) (report_more [] u.ended u.tolds old.line.items took.0 u.report took.1), took.2)
+      let given = with_reported u.given took.0 in
+      (given, subst (λ (ls : List (List ℕ)). LinesGive ls given) (sym (split_last fed u.ended old.line.items u.split u.within)) (report_more [] u.ended u.given old.line.items took.0 u.report took.1), took.2)
 
   -- nothing came yet
   pub underway_none : (i : Importer W) → HasTaken contents from [] i → i.line.items ≡ [] → i.ended ≡ 0 → IsUnderway contents from [] i
   underway_none i taken none ended = record {
     ended = [];
-    tolds = [];
+    given = [];
     report = refl;
     counted = ended;
     split = subst (Splits [] []) (sym none) split_none;

@@ -5,8 +5,8 @@ use Rattle.std.proofs.lemmas.List.{length-append}
 use Rattle.std.proofs.lemmas.List.Splits.{length-slice_split}
 use Rattle.std.proofs.lemmas.List.Sums.{count_by-le-length}
 use Rattle.cops_import.specs.Faults.{IsFaultOf}
-use Rattle.cops_import.specs.Line.{LineReports}
-use Rattle.cops_import.specs.Lines.{IsWithin, LinesReport, lines}
+use Rattle.cops_import.specs.Line.{LineGives}
+use Rattle.cops_import.specs.Lines.{IsWithin, LinesGive, lines}
 use Rattle.cops_import.specs.Underway.{IsStopAt, IsStopAtEnd, IsStopOf}
 use Rattle.cops_import.specs.declared.fault.ImportFault.{ImportFault}
 use Rattle.cops_import.specs.declared.fault.ImportFault.TheVariants.{Memory, ReadFailed, WriteFailed, Line, Changed, Endless}
@@ -26,53 +26,53 @@ on_ok (Ok x) P Q f h = f h
 on_ok (Err e) P Q f h = tt
 
 -- a fault that stops at an operation stops at its line
-pub stop_of : (clients number : ℕ) (tolds : List LineOp) (line : List ℕ) (reported : LineOp) (e : ImportFault) → LineReports line (Some reported) → IsStopOf clients number tolds reported e → IsStopAt clients number tolds line e
-stop_of clients number tolds line reported Memory reports stop = tt
-stop_of clients number tolds line reported ReadFailed reports stop = tt
-stop_of clients number tolds line reported (WriteFailed written) reports stop = tt
-stop_of clients number tolds line reported (Line n fault) reports stop = (stop.0, inr (reported, reports, stop.1))
-stop_of clients number tolds line reported Changed reports stop = (reported, reports, stop)
-stop_of clients number tolds line reported Endless reports stop = absurd stop
+pub stop_of : (clients number : ℕ) (given : List LineOp) (line : List ℕ) (reported : LineOp) (e : ImportFault) → LineGives line (Some reported) → IsStopOf clients number given reported e → IsStopAt clients number given line e
+stop_of clients number given line reported Memory reports stop = tt
+stop_of clients number given line reported ReadFailed reports stop = tt
+stop_of clients number given line reported (WriteFailed written) reports stop = tt
+stop_of clients number given line reported (Line n fault) reports stop = (stop.0, inr (reported, reports, stop.1))
+stop_of clients number given line reported Changed reports stop = (reported, reports, stop)
+stop_of clients number given line reported Endless reports stop = absurd stop
 
 -- a fault that stops at a line is a fault of the text with that line
-stop_says : (clients : ℕ) (bytes : List ℕ) (ended : List (List ℕ)) (line : List ℕ) (after : List (List ℕ)) (tolds : List LineOp) (number : ℕ) (e : ImportFault)
-    → lines bytes ≡ ended ++ line ∷ after → LinesReport ended tolds → number ≡ length ended + 1 → IsStopAt clients number tolds line e → IsFaultOf clients bytes e
-stop_says clients bytes ended line after tolds number Memory split report counted stop = tt
-stop_says clients bytes ended line after tolds number ReadFailed split report counted stop = tt
-stop_says clients bytes ended line after tolds number (WriteFailed written) split report counted stop = tt
-stop_says clients bytes ended line after tolds number (Line n fault) split report counted stop =
-    record { before = ended; line = line; after = after; split = split; counted = stop.0 ∙ counted; tolds = tolds; report = report; wrong = stop.1 }
-stop_says clients bytes ended line after tolds number Changed split report counted stop =
+stop_says : (clients : ℕ) (bytes : List ℕ) (ended : List (List ℕ)) (line : List ℕ) (after : List (List ℕ)) (given : List LineOp) (number : ℕ) (e : ImportFault)
+    → lines bytes ≡ ended ++ line ∷ after → LinesGive ended given → number ≡ length ended + 1 → IsStopAt clients number given line e → IsFaultOf clients bytes e
+stop_says clients bytes ended line after given number Memory split report counted stop = tt
+stop_says clients bytes ended line after given number ReadFailed split report counted stop = tt
+stop_says clients bytes ended line after given number (WriteFailed written) split report counted stop = tt
+stop_says clients bytes ended line after given number (Line n fault) split report counted stop =
+    record { before = ended; line = line; after = after; split = split; counted = stop.0 ∙ counted; given = given; report = report; wrong = stop.1 }
+stop_says clients bytes ended line after given number Changed split report counted stop =
     inl (record {
       first = ended ++ line ∷ [];
       rest = after;
       split = split ∙ sym (append_assoc ended (line ∷ []) after);
-      tolds = tolds ++ stop.0 ∷ [];
-      report = report_more [] ended tolds line (Some stop.0) report stop.1;
+      given = given ++ stop.0 ∷ [];
+      report = report_more [] ended given line (Some stop.0) report stop.1;
       more = stop.2;
     })
-stop_says clients bytes ended line after tolds number Endless split report counted stop = absurd stop
+stop_says clients bytes ended line after given number Endless split report counted stop = absurd stop
 
 -- the case of a line that a line feed ends, whatever follows
-pub stops_here : (clients : ℕ) (fed : List ℕ) (ended : List (List ℕ)) (line : List ℕ) (tolds : List LineOp) (number : ℕ) (e : ImportFault) → Splits fed ended line → IsWithin line
-    → LinesReport ended tolds → number ≡ length ended + 1 → IsStopAt clients number tolds line e → (more : List ℕ) → IsFaultOf clients ((fed ++ 10 ∷ []) ++ more) e
-stops_here clients fed ended line tolds number e split within report counted stop more =
-    stop_says clients ((fed ++ 10 ∷ []) ++ more) ended line (lines more) tolds number e (split_here fed ended line more split within) report counted stop
+pub stops_here : (clients : ℕ) (fed : List ℕ) (ended : List (List ℕ)) (line : List ℕ) (given : List LineOp) (number : ℕ) (e : ImportFault) → Splits fed ended line → IsWithin line
+    → LinesGive ended given → number ≡ length ended + 1 → IsStopAt clients number given line e → (more : List ℕ) → IsFaultOf clients ((fed ++ 10 ∷ []) ++ more) e
+stops_here clients fed ended line given number e split within report counted stop more =
+    stop_says clients ((fed ++ 10 ∷ []) ++ more) ended line (lines more) given number e (split_here fed ended line more split within) report counted stop
 
 -- the case of the last line
-pub stops_last : (clients : ℕ) (fed : List ℕ) (ended : List (List ℕ)) (line : List ℕ) (tolds : List LineOp) (number : ℕ) (e : ImportFault) → Splits fed ended line → IsWithin line
-    → LinesReport ended tolds → number ≡ length ended + 1 → IsStopAt clients number tolds line e → IsFaultOf clients fed e
-stops_last clients fed ended line tolds number e split within report counted stop =
-    stop_says clients fed ended line [] tolds number e (split_last fed ended line split within) report counted stop
+pub stops_last : (clients : ℕ) (fed : List ℕ) (ended : List (List ℕ)) (line : List ℕ) (given : List LineOp) (number : ℕ) (e : ImportFault) → Splits fed ended line → IsWithin line
+    → LinesGive ended given → number ≡ length ended + 1 → IsStopAt clients number given line e → IsFaultOf clients fed e
+stops_last clients fed ended line given number e split within report counted stop =
+    stop_says clients fed ended line [] given number e (split_last fed ended line split within) report counted stop
 
 -- the case of the end, after the last line
-pub stops_ended : (clients : ℕ) (bytes : List ℕ) (tolds : List LineOp) (e : ImportFault) → LinesReport (lines bytes) tolds → IsStopAtEnd clients tolds e → IsFaultOf clients bytes e
-stops_ended clients bytes tolds Memory report stop = tt
-stops_ended clients bytes tolds ReadFailed report stop = tt
-stops_ended clients bytes tolds (WriteFailed written) report stop = tt
-stops_ended clients bytes tolds (Line n fault) report stop = absurd stop
-stops_ended clients bytes tolds Changed report stop = inr (tolds, report, stop)
-stops_ended clients bytes tolds Endless report stop = absurd stop
+pub stops_ended : (clients : ℕ) (bytes : List ℕ) (given : List LineOp) (e : ImportFault) → LinesGive (lines bytes) given → IsStopAtEnd clients given e → IsFaultOf clients bytes e
+stops_ended clients bytes given Memory report stop = tt
+stops_ended clients bytes given ReadFailed report stop = tt
+stops_ended clients bytes given (WriteFailed written) report stop = tt
+stops_ended clients bytes given (Line n fault) report stop = absurd stop
+stops_ended clients bytes given Changed report stop = inr (given, report, stop)
+stops_ended clients bytes given Endless report stop = absurd stop
 
 -- the case where no 64-bit number is left for a line
 pub no_number : (bytes : List ℕ) (ended rest : List (List ℕ)) → lines bytes ≡ ended ++ rest → 18446744073709551615 ≤ length ended → 2 ^ 40 ≤ length bytes

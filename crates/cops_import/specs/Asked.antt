@@ -9,17 +9,17 @@ use Rattle.cops_import.specs.declared.fault.JsonLineFault.TheVariants.{BadKey, B
 use Rattle.cops_import.specs.declared.line.Kind.{Kind}
 use Rattle.cops_import.specs.declared.line.Kind.TheVariants.{Put, Get}
 use Rattle.cops_json.specs.Json.{text_json}
-use Rattle.cops_import.specs.Line.{FoundNothing, LacksValue, LacksVersion, ReportsValue, ReportsVersion}
+use Rattle.cops_import.specs.Line.{FoundNothing, LacksValue, LacksVersion, GivesValue, GivesVersion}
 
 abbrev pub IsKeyJson : Data → List ℕ → Type 0
 IsKeyJson at key = (at ≡ text_json key) × IsKey key
 
 -- the operation of an object whose operation has this kind, and its key in `at`
-abbrev pub ReportsKind : Data → Kind → Data → Op → Type 0
-ReportsKind d Put at (op.Put key value version) = IsKeyJson at key × ReportsValue d value × ReportsVersion d version
-ReportsKind d Get at (op.Got key value version) = IsKeyJson at key × ReportsValue d value × ReportsVersion d version
-ReportsKind d Get at (op.Missed key) = IsKeyJson at key × FoundNothing d
-ReportsKind d _ at _ = ⊥
+abbrev pub GivesKind : Data → Kind → Data → Op → Type 0
+GivesKind d Put at (op.Put key value version) = IsKeyJson at key × GivesValue d value × GivesVersion d version
+GivesKind d Get at (op.Got key value version) = IsKeyJson at key × GivesValue d value × GivesVersion d version
+GivesKind d Get at (op.Missed key) = IsKeyJson at key × FoundNothing d
+GivesKind d _ at _ = ⊥
 
 -- what is wrong with such an object
 abbrev pub IsWrongOf : Data → Kind → Data → JsonLineFault → Type 0

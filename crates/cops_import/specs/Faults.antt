@@ -4,8 +4,8 @@ use Rattle.cops_types.specs.Failures.{Failed}
 use Rattle.cops_types.specs.declared.limits.TheConstants.{MAX_CLIENTS, MAX_CLIENT_OPS, MAX_OPS}
 use Rattle.cops_trace.specs.Live.{IsCutShort}
 use Rattle.cops_trace.specs.Text.{turn}
-use Rattle.cops_import.specs.Line.{IsFaulty, LineReports}
-use Rattle.cops_import.specs.Lines.{LinesReport, lines, names_of, trace_of}
+use Rattle.cops_import.specs.Line.{IsFaulty, LineGives}
+use Rattle.cops_import.specs.Lines.{LinesGive, lines, names_of, trace_of}
 use Rattle.cops_import.specs.Names.{number_of}
 use Rattle.cops_import.specs.declared.fault.ImportFault.{ImportFault}
 use Rattle.cops_import.specs.declared.fault.ImportFault.TheVariants.{Memory, Changed, Endless, Line, ReadFailed, WriteFailed}
@@ -15,18 +15,18 @@ use Rattle.cops_import.specs.declared.line.LineOp.{LineOp}
 
 -- after these operations the client may have one record more, and so may the whole trace
 abbrev pub HasRoomAfter : List LineOp → ℕ → Type 0
-HasRoomAfter tolds client = (turn client (trace_of tolds).records < MAX_CLIENT_OPS) × (length tolds < MAX_OPS)
+HasRoomAfter given client = (turn client (trace_of given).records < MAX_CLIENT_OPS) × (length given < MAX_OPS)
 
 -- the next operation exceeds a limit after these
 abbrev pub IsTooMany : List LineOp → LineOp → JsonLineFault → Type 0
-IsTooMany tolds reported TooManyClients = MAX_CLIENTS < length (names_of (tolds ++ reported ∷ []))
-IsTooMany tolds reported TooManyOperations =
-    (length (names_of (tolds ++ reported ∷ [])) ≤ MAX_CLIENTS) × (HasRoomAfter tolds (number_of (names_of (tolds ++ reported ∷ [])) reported.name) → ⊥)
-IsTooMany tolds reported _ = ⊥
+IsTooMany given reported TooManyClients = MAX_CLIENTS < length (names_of (given ++ reported ∷ []))
+IsTooMany given reported TooManyOperations =
+    (length (names_of (given ++ reported ∷ [])) ≤ MAX_CLIENTS) × (HasRoomAfter given (number_of (names_of (given ++ reported ∷ [])) reported.name) → ⊥)
+IsTooMany given reported _ = ⊥
 
 -- what is wrong with a line after lines with these operations: the line itself is faulty, or its operation exceeds a limit
 abbrev pub IsFaultyAfter : List LineOp → List ℕ → JsonLineFault → Type 0
-IsFaultyAfter tolds line fault = IsFaulty line fault ⊎ ((reported : LineOp) × LineReports line (Some reported) × IsTooMany tolds reported fault)
+IsFaultyAfter given line fault = IsFaulty line fault ⊎ ((reported : LineOp) × LineGives line (Some reported) × IsTooMany given reported fault)
 
 -- the first wrong line, counted from 1
 pub record IsFirstFaulty (bytes : List ℕ) (number : ℕ) (fault : JsonLineFault) : Type 0 where
@@ -35,22 +35,22 @@ pub record IsFirstFaulty (bytes : List ℕ) (number : ℕ) (fault : JsonLineFaul
   pub after : List (List ℕ)
   pub split : lines bytes ≡ before ++ line ∷ after
   pub counted : number ≡ length before + 1
-  pub tolds : List LineOp
-  pub report : LinesReport before tolds
-  pub wrong : IsFaultyAfter tolds line fault
+  pub given : List LineOp
+  pub report : LinesGive before given
+  pub wrong : IsFaultyAfter given line fault
 
 -- a prefix of the lines names more than `clients` clients
 pub record NamesMore (clients : ℕ) (bytes : List ℕ) : Type 0 where
   pub first : List (List ℕ)
   pub rest : List (List ℕ)
   pub split : lines bytes ≡ first ++ rest
-  pub tolds : List LineOp
-  pub report : LinesReport first tolds
-  pub more : clients < length (names_of tolds)
+  pub given : List LineOp
+  pub report : LinesGive first given
+  pub more : clients < length (names_of given)
 
 -- all lines together do not name exactly `clients` clients
 abbrev pub NamesOthers : ℕ → List ℕ → Type 0
-NamesOthers clients bytes = (tolds : List LineOp) × LinesReport (lines bytes) tolds × (length (names_of tolds) ≢ clients)
+NamesOthers clients bytes = (given : List LineOp) × LinesGive (lines bytes) given × (length (names_of given) ≢ clients)
 
 -- what a fault says of the whole text, where the caller said that it names `clients` clients
 abbrev pub IsFaultOf : ℕ → List ℕ → ImportFault → Type 0

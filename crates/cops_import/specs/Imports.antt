@@ -2,15 +2,15 @@
 use Rattle.std.specs.Prelude.{◌≡◌, ℕ, List, length, Option}
 use Rattle.std.specs.Io.KnownBytes.{Appends}
 use Rattle.cops_trace.specs.Text.{IsTrace, text}
-use Rattle.cops_import.specs.Lines.{LinesReport, lines, names_of, trace_of}
+use Rattle.cops_import.specs.Lines.{LinesGive, lines, names_of, trace_of}
 use Rattle.cops_import.specs.declared.line.LineOp.{LineOp}
 
 -- the text of the one trace that all lines describe was written; it is within the limits, `names` are the names of its clients, and `operations` is
 -- the number of its operations
 pub record IsImport (bytes : List ℕ) (old new : Option (List ℕ)) (names : List (List ℕ)) (operations : ℕ) : Type 0 where
-  pub tolds : List LineOp
-  pub report : LinesReport (lines bytes) tolds
-  pub names_are : names ≡ names_of tolds
-  pub counted : operations ≡ length tolds
-  pub is_trace : IsTrace (trace_of tolds)
-  pub written : Appends old new (text (trace_of tolds))
+  pub given : List LineOp
+  pub report : LinesGive (lines bytes) given
+  pub names_are : names ≡ names_of given
+  pub counted : operations ≡ length given
+  pub is_trace : IsTrace (trace_of given)
+  pub written : Appends old new (text (trace_of given))

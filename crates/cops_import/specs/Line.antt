@@ -41,8 +41,8 @@ pair_json a b = array (item (number_json a) (item (number_json b) no_items))
 abbrev pub IsNameJson : List ℕ → Data → Type 0
 IsNameJson name d = (d ≡ text_json name) ⊎ ((n : ℕ) × (d ≡ number_json n) × (name ≡ decimal n))
 
-abbrev pub ReportsName : Data → List ℕ → Type 0
-ReportsName d name = (at : Data) × (get (codes "client") d ≡ Some at) × IsNameJson name at
+abbrev pub GivesName : Data → List ℕ → Type 0
+GivesName d name = (at : Data) × (get (codes "client") d ≡ Some at) × IsNameJson name at
 
 -- the object has one operation, of this kind, and this is the value that holds its key
 abbrev pub IsAsked : Data → Kind → Data → Type 0
@@ -53,16 +53,16 @@ IsAsked d Get at = (get (codes "put") d ≡ None) × (get (codes "get") d ≡ So
 abbrev pub AsksKey : Data → Kind → List ℕ → Type 0
 AsksKey d kind key = IsAsked d kind (text_json key) × IsKey key
 
-abbrev pub ReportsValue : Data → List ℕ → Type 0
-ReportsValue d value = (get (codes "value") d ≡ Some (text_json value)) × Fits One (Some value)
+abbrev pub GivesValue : Data → List ℕ → Type 0
+GivesValue d value = (get (codes "value") d ≡ Some (text_json value)) × Fits One (Some value)
 
 -- a version: the text of its clock and node, its clock alone where its node is 0, or both numbers
 abbrev pub IsVersionJson : ℕ → Data → Type 0
 IsVersionJson v d =
     (d ≡ text_json (version_text v)) ⊎ ((d ≡ number_json (clock_of v)) × (node_of v ≡ 0)) ⊎ (d ≡ pair_json (clock_of v) (node_of v))
 
-abbrev pub ReportsVersion : Data → ℕ → Type 0
-ReportsVersion d v = (at : Data) × (get (codes "version") d ≡ Some at) × IsVersionJson v at × IsVersion v
+abbrev pub GivesVersion : Data → ℕ → Type 0
+GivesVersion d v = (at : Data) × (get (codes "version") d ≡ Some at) × IsVersionJson v at × IsVersion v
 
 -- no member, or null
 abbrev pub IsNothing : Option Data → Type 0
@@ -74,35 +74,35 @@ FoundNothing d = (get (codes "value") d ≡ Some null) × IsNothing (get (codes 
 
 -- ---- the operation
 
-abbrev pub ReportsOp : Data → Op → Type 0
-ReportsOp d (op.Put key value version) = AsksKey d Put key × ReportsValue d value × ReportsVersion d version
-ReportsOp d (op.Got key value version) = AsksKey d Get key × ReportsValue d value × ReportsVersion d version
-ReportsOp d (op.Missed key) = AsksKey d Get key × FoundNothing d
-ReportsOp d _ = ⊥
+abbrev pub GivesOp : Data → Op → Type 0
+GivesOp d (op.Put key value version) = AsksKey d Put key × GivesValue d value × GivesVersion d version
+GivesOp d (op.Got key value version) = AsksKey d Get key × GivesValue d value × GivesVersion d version
+GivesOp d (op.Missed key) = AsksKey d Get key × FoundNothing d
+GivesOp d _ = ⊥
 
 -- the object has this client's name and this operation
-abbrev pub Reports : Data → LineOp → Type 0
-Reports d reported = ReportsName d reported.name × ReportsOp d reported.op
+abbrev pub Gives : Data → LineOp → Type 0
+Gives d reported = GivesName d reported.name × GivesOp d reported.op
 
 -- the line is the JSON text of such an object
-abbrev pub TextReports : List ℕ → LineOp → Type 0
-TextReports line reported = (d : Data) × IsJson line d × Reports d reported
+abbrev pub TextGives : List ℕ → LineOp → Type 0
+TextGives line reported = (d : Data) × IsJson line d × Gives d reported
 
 -- a blank line has no operation, and any other line has that of its object
-abbrev pub LineReports : List ℕ → Option LineOp → Type 0
-LineReports line None = IsBlank line
-LineReports line (Some reported) = (IsBlank line → ⊥) × TextReports line reported
+abbrev pub LineGives : List ℕ → Option LineOp → Type 0
+LineGives line None = IsBlank line
+LineGives line (Some reported) = (IsBlank line → ⊥) × TextGives line reported
 
 -- ---- what is wrong with a line
 
 abbrev pub HasName : Data → Type 0
-HasName d = (name : List ℕ) × ReportsName d name
+HasName d = (name : List ℕ) × GivesName d name
 
 abbrev pub HasNoValue : Data → Type 0
-HasNoValue d = (value : List ℕ) → ReportsValue d value → ⊥
+HasNoValue d = (value : List ℕ) → GivesValue d value → ⊥
 
 abbrev pub HasNoVersion : Data → Type 0
-HasNoVersion d = (v : ℕ) → ReportsVersion d v → ⊥
+HasNoVersion d = (v : ℕ) → GivesVersion d v → ⊥
 
 -- the value is missing: a put needs one, and so does a get, unless it found nothing
 abbrev pub LacksValue : Data → Kind → Type 0
@@ -111,11 +111,11 @@ LacksValue d Get = HasNoValue d × (FoundNothing d → ⊥)
 
 -- the version is missing, which a value needs
 abbrev pub LacksVersion : Data → Type 0
-LacksVersion d = (value : List ℕ) × ReportsValue d value × HasNoVersion d
+LacksVersion d = (value : List ℕ) × GivesValue d value × HasNoVersion d
 
 -- what is wrong with an object whose members checked before are right
 abbrev pub IsWrong : Data → JsonLineFault → Type 0
-IsWrong d NoClient = (name : List ℕ) → ReportsName d name → ⊥
+IsWrong d NoClient = (name : List ℕ) → GivesName d name → ⊥
 IsWrong d NoOperation = HasName d × (get (codes "put") d ≡ None) × (get (codes "get") d ≡ None)
 IsWrong d BothOperations = HasName d × (get (codes "put") d ≢ None) × (get (codes "get") d ≢ None)
 IsWrong d BadKey = HasName d × ((kind : Kind) × (at : Data) × IsAsked d kind at × ((key : List ℕ) → IsKey key → at ≢ text_json key))

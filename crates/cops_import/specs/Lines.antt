@@ -4,7 +4,7 @@ use Rattle.std.specs.List.{All, slice_split}
 use Rattle.cops_types.specs.Operations.{operation_of}
 use Rattle.cops_types.specs.declared.format.Format.TheVariants.{One}
 use Rattle.cops_trace.specs.Text.{ARecord, ATrace}
-use Rattle.cops_import.specs.Line.{LineReports}
+use Rattle.cops_import.specs.Line.{LineGives}
 use Rattle.cops_import.specs.Names.{number_of, with_name}
 use Rattle.cops_import.specs.declared.line.LineOp.{LineOp}
 
@@ -18,21 +18,21 @@ lines bytes = slice_split (λ b. b == 10) bytes
 
 -- the operations with that of one more line, if it has one
 abbrev pub with_reported : List LineOp → Option LineOp → List LineOp
-with_reported tolds None = tolds
-with_reported tolds (Some reported) = tolds ++ reported ∷ []
+with_reported given None = given
+with_reported given (Some reported) = given ++ reported ∷ []
 
--- `tolds` are the operations `earlier` and then those of the lines, at most one for each line
-abbrev pub ReportAfter : List LineOp → List (List ℕ) → List LineOp → Type 0
-ReportAfter earlier [] tolds = tolds ≡ earlier
-ReportAfter earlier (line ∷ lines) tolds = (reported : Option LineOp) × LineReports line reported × ReportAfter (with_reported earlier reported) lines tolds
+-- `given` are the operations `earlier` and then those of the lines, at most one for each line
+abbrev pub GiveAfter : List LineOp → List (List ℕ) → List LineOp → Type 0
+GiveAfter earlier [] given = given ≡ earlier
+GiveAfter earlier (line ∷ lines) given = (reported : Option LineOp) × LineGives line reported × GiveAfter (with_reported earlier reported) lines given
 
--- `tolds` are the operations of the lines, in their order
-abbrev pub LinesReport : List (List ℕ) → List LineOp → Type 0
-LinesReport lines tolds = ReportAfter [] lines tolds
+-- `given` are the operations of the lines, in their order
+abbrev pub LinesGive : List (List ℕ) → List LineOp → Type 0
+LinesGive lines given = GiveAfter [] lines given
 
 -- the names of the clients in the order in which they first appear
 abbrev pub names_of : List LineOp → List (List ℕ)
-names_of tolds = fold (λ names reported. with_name names reported.name) [] tolds
+names_of given = fold (λ names reported. with_name names reported.name) [] given
 
 -- the record of an operation, whose client's name is among these
 abbrev pub record_of : List (List ℕ) → LineOp → ARecord
@@ -40,4 +40,4 @@ record_of names reported = record { client = number_of names reported.name; op =
 
 -- the trace of format 1 with a record for each operation, in their order, and as many clients as there are names
 abbrev pub trace_of : List LineOp → ATrace
-trace_of tolds = record { format = One; clients = length (names_of tolds); records = map (record_of (names_of tolds)) tolds }
+trace_of given = record { format = One; clients = length (names_of given); records = map (record_of (names_of given)) given }

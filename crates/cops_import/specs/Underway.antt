@@ -7,8 +7,8 @@ use Rattle.cops_trace.specs.Counts.{AreCountsOf}
 use Rattle.cops_trace.specs.Text.{ATrace, IsTrace, beginning, text}
 use Rattle.cops_trace.specs.declared.writer.TraceWriter.{TraceWriter}
 use Rattle.cops_import.specs.Faults.{IsCutBy, IsFaultOf, IsFaultyAfter, IsHeardBy, IsTooMany}
-use Rattle.cops_import.specs.Line.{LineReports}
-use Rattle.cops_import.specs.Lines.{IsWithin, LinesReport, lines, names_of, trace_of, with_reported}
+use Rattle.cops_import.specs.Line.{LineGives}
+use Rattle.cops_import.specs.Lines.{IsWithin, LinesGive, lines, names_of, trace_of, with_reported}
 use Rattle.cops_import.specs.declared.fault.ImportFault.{ImportFault}
 use Rattle.cops_import.specs.declared.fault.ImportFault.TheVariants.{Changed, Endless, Line}
 use Rattle.cops_import.specs.declared.imported.Imported.{Imported}
@@ -17,7 +17,7 @@ use Rattle.cops_import.specs.declared.line.LineOp.{LineOp}
 
 -- the trace of the operations so far, with the number of clients that the caller said
 abbrev pub trace_to : ℕ → List LineOp → ATrace
-trace_to clients tolds = record (trace_of tolds) { clients = clients }
+trace_to clients given = record (trace_of given) { clients = clients }
 
 -- the head and the records of a trace were written, and the writer did not fail
 pub record HasWritten {W : Type 0} (contents : W → Option (List ℕ)) (from : Counted W) (t : ATrace) (w : TraceWriter W) : Type 0 where
@@ -28,31 +28,31 @@ pub record HasWritten {W : Type 0} (contents : W → Option (List ℕ)) (from : 
   pub heard : failures w.writer ≡ failures from
 
 -- the importer took these operations: it has their names, and wrote their records
-pub record HasTaken {W : Type 0} (contents : W → Option (List ℕ)) (from : Counted W) (tolds : List LineOp) (i : Importer W) : Type 0 where
-  pub names : i.names ≡ names_of tolds
-  pub operations : i.operations ≡ length tolds
-  pub wrote : HasWritten contents from (trace_to i.clients tolds) i.writer
+pub record HasTaken {W : Type 0} (contents : W → Option (List ℕ)) (from : Counted W) (given : List LineOp) (i : Importer W) : Type 0 where
+  pub names : i.names ≡ names_of given
+  pub operations : i.operations ≡ length given
+  pub wrote : HasWritten contents from (trace_to i.clients given) i.writer
 
 -- the importer took the line's operation, if it has one
 abbrev pub TakesLine : {W : Type 0} → (W → Option (List ℕ)) → Counted W → List LineOp → List ℕ → Importer W → Type 0
-TakesLine contents from tolds line i = (reported : Option LineOp) × LineReports line reported × HasTaken contents from (with_reported tolds reported) i
+TakesLine contents from given line i = (reported : Option LineOp) × LineGives line reported × HasTaken contents from (with_reported given reported) i
 
 -- the importer took `fed`: all lines that ended, and the last line as far as it came, which it keeps
 pub record IsUnderway {W : Type 0} (contents : W → Option (List ℕ)) (from : Counted W) (fed : List ℕ) (i : Importer W) : Type 0 where
   pub ended : List (List ℕ)
-  pub tolds : List LineOp
-  pub report : LinesReport ended tolds
+  pub given : List LineOp
+  pub report : LinesGive ended given
   pub counted : i.ended ≡ length ended
   pub split : (more : List ℕ) → lines (fed ++ more) ≡ ended ++ lines (i.line.items ++ more)
   pub within : IsWithin i.line.items
-  pub taken : HasTaken contents from tolds i
+  pub taken : HasTaken contents from given i
 
 -- the end record was written after the records of these operations
-pub record HasEnded {W : Type 0} (contents : W → Option (List ℕ)) (from : Counted W) (tolds : List LineOp) (done : Imported W) : Type 0 where
-  pub names : done.names ≡ names_of tolds
-  pub operations : done.operations ≡ length tolds
-  pub is_trace : IsTrace (trace_of tolds)
-  pub written : Appends (contents (inner from)) (contents (inner done.writer)) (text (trace_of tolds))
+pub record HasEnded {W : Type 0} (contents : W → Option (List ℕ)) (from : Counted W) (given : List LineOp) (done : Imported W) : Type 0 where
+  pub names : done.names ≡ names_of given
+  pub operations : done.operations ≡ length given
+  pub is_trace : IsTrace (trace_of given)
+  pub written : Appends (contents (inner from)) (contents (inner done.writer)) (text (trace_of given))
   pub heard : failures done.writer ≡ failures from
 
 -- the importer took all bytes that the reader had, if those are known
@@ -61,7 +61,7 @@ HasReadAll contents from known i = (fed : List ℕ) × IsUnderway contents from 
 
 -- the import ended with all operations of these bytes' lines
 abbrev pub Finishes : {W : Type 0} → (W → Option (List ℕ)) → Counted W → List ℕ → Imported W → Type 0
-Finishes contents from fed done = (tolds : List LineOp) × LinesReport (lines fed) tolds × HasEnded contents from tolds done
+Finishes contents from fed done = (given : List LineOp) × LinesGive (lines fed) given × HasEnded contents from given done
 
 -- ---- stopping
 
@@ -72,24 +72,24 @@ pub record HasLeft {W : Type 0} (contents : W → Option (List ℕ)) (from : Cou
 
 -- the fault that stops the import at this operation, of the line of this number, after the others
 abbrev pub IsStopOf : ℕ → ℕ → List LineOp → LineOp → ImportFault → Type 0
-IsStopOf clients number tolds reported (Line n fault) = (n ≡ number) × IsTooMany tolds reported fault
-IsStopOf clients number tolds reported Changed = clients < length (names_of (tolds ++ reported ∷ []))
-IsStopOf clients number tolds reported Endless = ⊥
-IsStopOf clients number tolds reported _ = Unit {0}
+IsStopOf clients number given reported (Line n fault) = (n ≡ number) × IsTooMany given reported fault
+IsStopOf clients number given reported Changed = clients < length (names_of (given ++ reported ∷ []))
+IsStopOf clients number given reported Endless = ⊥
+IsStopOf clients number given reported _ = Unit {0}
 
 -- the fault that stops the import at this line, of this number, after lines with these operations
 abbrev pub IsStopAt : ℕ → ℕ → List LineOp → List ℕ → ImportFault → Type 0
-IsStopAt clients number tolds line (Line n fault) = (n ≡ number) × IsFaultyAfter tolds line fault
-IsStopAt clients number tolds line Changed = (reported : LineOp) × LineReports line (Some reported) × (clients < length (names_of (tolds ++ reported ∷ [])))
-IsStopAt clients number tolds line Endless = ⊥
-IsStopAt clients number tolds line _ = Unit {0}
+IsStopAt clients number given line (Line n fault) = (n ≡ number) × IsFaultyAfter given line fault
+IsStopAt clients number given line Changed = (reported : LineOp) × LineGives line (Some reported) × (clients < length (names_of (given ++ reported ∷ [])))
+IsStopAt clients number given line Endless = ⊥
+IsStopAt clients number given line _ = Unit {0}
 
 -- the fault that stops the import at the end, after all lines with these operations
 abbrev pub IsStopAtEnd : ℕ → List LineOp → ImportFault → Type 0
-IsStopAtEnd clients tolds (Line n fault) = ⊥
-IsStopAtEnd clients tolds Changed = length (names_of tolds) ≢ clients
-IsStopAtEnd clients tolds Endless = ⊥
-IsStopAtEnd clients tolds _ = Unit {0}
+IsStopAtEnd clients given (Line n fault) = ⊥
+IsStopAtEnd clients given Changed = length (names_of given) ≢ clients
+IsStopAtEnd clients given Endless = ⊥
+IsStopAtEnd clients given _ = Unit {0}
 
 -- the import stopped: whatever bytes follow, the fault is that of the whole text
 pub record HasStopped {W : Type 0} (contents : W → Option (List ℕ)) (from : Counted W) (fed : List ℕ) (fault : ImportFault) (clients : ℕ) (w : Counted W) : Type 0 where

@@ -3,7 +3,7 @@ ghost use Rattle.std.specs.Prelude.{◌≡◌, ◌≢◌, ℕ, List, Err, IfOk, 
 ghost use Rattle.serde_json.specs.View.{view};
 ghost use Rattle.cops_json.specs.Json.{number_json};
 ghost use Rattle.cops_types.specs.Version.{IsVersion, clock_of, node_of};
-ghost use Rattle.cops_import.specs.Line.{HasNoValue, HasNoVersion, ReportsName, ReportsValue, ReportsVersion, pair_json};
+ghost use Rattle.cops_import.specs.Line.{HasNoValue, HasNoVersion, GivesName, GivesValue, GivesVersion, pair_json};
 
 use crate::name::Name;
 use cops_json::{Unread, value, version};
@@ -13,8 +13,8 @@ use std::alloc::Global;
 
 /// The name of an object's client: a text, or the decimal digits of a whole number.
 pub(crate) fn name_of(alloc: Global, object: &Json) -> Result<Name, Unread>
-    ensures reported { IfOk result (ReportsName (view object.now)) }
-    ensures none { result ≡ Err Unread.Form → (name : List ℕ) → ReportsName (view object.now) name → ⊥ }
+    ensures reported { IfOk result (GivesName (view object.now)) }
+    ensures none { result ≡ Err Unread.Form → (name : List ℕ) → GivesName (view object.now) name → ⊥ }
 {
     let json = object.get("client").ok_or(Unread::Form)?;
     if let Some(text) = json.as_str() {
@@ -27,7 +27,7 @@ pub(crate) fn name_of(alloc: Global, object: &Json) -> Result<Name, Unread>
 
 /// The value of an object, a text of at most 4,096 bytes.
 pub(crate) fn value_of(alloc: Global, object: &Json) -> Result<Value, Unread>
-    ensures reported { IfOk result (ReportsValue (view object.now)) }
+    ensures reported { IfOk result (GivesValue (view object.now)) }
     ensures none { result ≡ Err Unread.Form → HasNoValue (view object.now) }
 {
     value(alloc, Format::One, object.get("value").ok_or(Unread::Form)?)
@@ -35,7 +35,7 @@ pub(crate) fn value_of(alloc: Global, object: &Json) -> Result<Value, Unread>
 
 /// The version of an object: a text, a clock or a pair.
 pub(crate) fn version_of(object: &Json) -> Result<Version, Unread>
-    ensures reported { IfOk result (ReportsVersion (view object.now)) }
+    ensures reported { IfOk result (GivesVersion (view object.now)) }
     ensures none { OnErr result (HasNoVersion (view object.now)) }
 {
     let json = object.get("version").ok_or(Unread::Form)?;

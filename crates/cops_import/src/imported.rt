@@ -22,9 +22,9 @@ pub struct Imported<W: Write> {
 
 impl<W: Write> Imported<W> {
     /// The text that an import prints: a line `client N NAME` for each client in the order of their numbers, and then
-    /// `imported: N operations, M clients` (`reported_text` in `specs/Words.antt`). In the names, ASCII letters, digits,
-    /// `-`, `.` and `_` stand as they are, and any other byte as `%` and two lower case hexadecimal digits. Fails if
-    /// memory runs out.
+    /// `imported: N operations, M clients` (`reported_text` in `specs/Words.antt`). In the names, ASCII letters,
+    /// digits, `-`, `.` and `_` stand as they are, and any other byte as `%` and two lower case hexadecimal digits.
+    /// Fails if memory runs out.
     pub fn reported(&self, alloc: Global) -> Result<String, AllocError>
         ensures ok { IfOk result (λ text. string_bytes text ≡ reported_text self.now.names self.now.operations) }
     {

@@ -5,13 +5,13 @@ ghost use Rattle.cops_types.specs.declared.counted.Counted.{Counted as ACounted}
 ghost use Rattle.cops_types.specs.Operations.{operation_of};
 ghost use Rattle.cops_types.specs.declared.format.Format.TheVariants.{One};
 ghost use Rattle.cops_trace.specs.Text.{IsOp};
-ghost use Rattle.cops_import.specs.declared.line.LineOp.{LineOp as AReported};
+ghost use Rattle.cops_import.specs.declared.line.LineOp.{LineOp as AGivenOp};
 ghost use Rattle.cops_import.specs.Faults.{IsFaultOf};
 ghost use Rattle.cops_import.specs.Underway.{Finishes, HasEnded, HasLeft, HasStopped, HasTaken, IsStopAt, IsStopAtEnd, IsStopOf, IsUnderway, TakesLine};
 
 use crate::fault::{ImportFault, JsonLineFault};
 use crate::imported::{Imported, Unimported};
-use crate::line::{LineOp, Untold, of_line};
+use crate::line::{LineOp, NotGiven, of_line};
 use crate::name::Name;
 use crate::names::Names;
 use cops_trace::TraceWriter;
@@ -70,9 +70,9 @@ impl<W: Write> Importer<W> {
     /// Writes the record of an operation: that of the named client, from the line of this number.
     fn take(&mut self, name: Name, op: &Op, number: u64) -> Result<(), ImportFault>
         requires { IsOp One (operation_of op.now) }
-        ensures ok { OnOk result ((from : ACounted W) (tolds : List AReported) → HasTaken W.contents from tolds self.old → HasTaken W.contents from (tolds ++ record { name = name; op = op.now } ∷ []) self.new) }
-        ensures err { IfErr result (λ e. (from : ACounted W) (tolds : List AReported) → HasTaken W.contents from tolds self.old → HasLeft W.contents from e self.new.writer.writer) }
-        ensures stop { IfErr result (λ e. (from : ACounted W) (tolds : List AReported) → HasTaken W.contents from tolds self.old → IsStopOf self.old.clients number tolds (record { name = name; op = op.now }) e) }
+        ensures ok { OnOk result ((from : ACounted W) (given : List AGivenOp) → HasTaken W.contents from given self.old → HasTaken W.contents from (given ++ record { name = name; op = op.now } ∷ []) self.new) }
+        ensures err { IfErr result (λ e. (from : ACounted W) (given : List AGivenOp) → HasTaken W.contents from given self.old → HasLeft W.contents from e self.new.writer.writer) }
+        ensures stop { IfErr result (λ e. (from : ACounted W) (given : List AGivenOp) → HasTaken W.contents from given self.old → IsStopOf self.old.clients number given (record { name = name; op = op.now }) e) }
         ensures device { IfErr result (λ e. e ≢ ImportFault.ReadFailed) }
         ensures clients { self.new.clients ≡ self.old.clients }
         ensures line { self.new.line ≡ self.old.line }
@@ -107,9 +107,9 @@ impl<W: Write> Importer<W> {
 
     /// Takes the line that has come, which has this number.
     fn take_line(&mut self, number: u64) -> Result<(), ImportFault>
-        ensures ok { OnOk result ((from : ACounted W) (tolds : List AReported) → HasTaken W.contents from tolds self.old → TakesLine W.contents from tolds self.old.line.items self.new) }
-        ensures err { IfErr result (λ e. (from : ACounted W) (tolds : List AReported) → HasTaken W.contents from tolds self.old → HasLeft W.contents from e self.new.writer.writer) }
-        ensures stop { IfErr result (λ e. (from : ACounted W) (tolds : List AReported) → HasTaken W.contents from tolds self.old → IsStopAt self.old.clients number tolds self.old.line.items e) }
+        ensures ok { OnOk result ((from : ACounted W) (given : List AGivenOp) → HasTaken W.contents from given self.old → TakesLine W.contents from given self.old.line.items self.new) }
+        ensures err { IfErr result (λ e. (from : ACounted W) (given : List AGivenOp) → HasTaken W.contents from given self.old → HasLeft W.contents from e self.new.writer.writer) }
+        ensures stop { IfErr result (λ e. (from : ACounted W) (given : List AGivenOp) → HasTaken W.contents from given self.old → IsStopAt self.old.clients number given self.old.line.items e) }
         ensures device { IfErr result (λ e. e ≢ ImportFault.ReadFailed) }
         ensures clients { self.new.clients ≡ self.old.clients }
     {
@@ -119,8 +119,8 @@ impl<W: Write> Importer<W> {
                 let LineOp { name, op } = reported;
                 self.take(name, &op, number)
             }
-            Err(Untold::Memory) => Err(ImportFault::Memory),
-            Err(Untold::Fault(fault)) => Err(ImportFault::Line { number, fault }),
+            Err(NotGiven::Memory) => Err(ImportFault::Memory),
+            Err(NotGiven::Fault(fault)) => Err(ImportFault::Line { number, fault }),
         }
     }
 
@@ -216,9 +216,9 @@ impl<W: Write> Importer<W> {
 
     /// Writes the end record, if the lines named as many clients as the caller said.
     fn end(self) -> Result<Imported<W>, Unimported<W>>
-        ensures ok { IfOk result (λ done. (from : ACounted W) (tolds : List AReported) → HasTaken W.contents from tolds self → HasEnded W.contents from tolds done) }
-        ensures err { IfErr result (λ u. (from : ACounted W) (tolds : List AReported) → HasTaken W.contents from tolds self → HasLeft W.contents from u.fault u.writer) }
-        ensures stop { IfErr result (λ u. (from : ACounted W) (tolds : List AReported) → HasTaken W.contents from tolds self → IsStopAtEnd self.clients tolds u.fault) }
+        ensures ok { IfOk result (λ done. (from : ACounted W) (given : List AGivenOp) → HasTaken W.contents from given self → HasEnded W.contents from given done) }
+        ensures err { IfErr result (λ u. (from : ACounted W) (given : List AGivenOp) → HasTaken W.contents from given self → HasLeft W.contents from u.fault u.writer) }
+        ensures stop { IfErr result (λ u. (from : ACounted W) (given : List AGivenOp) → HasTaken W.contents from given self → IsStopAtEnd self.clients given u.fault) }
         ensures device { IfErr result (λ u. u.fault ≢ ImportFault.ReadFailed) }
         ensures clients { IfOk result (λ done. length done.names ≡ self.clients) }
     {

@@ -3,8 +3,8 @@ ghost use Rattle.std.specs.Prelude.{◌≡◌, ◌↔◌, Err, IfOk, IsTrue, Som
 ghost use Rattle.serde_json.specs.Data.{null};
 ghost use Rattle.serde_json.specs.View.{view};
 ghost use Rattle.cops_import.specs.declared.fault.JsonLineFault.{JsonLineFault as AFault};
-ghost use Rattle.cops_import.specs.Line.{FoundNothing, IsAsked, IsBlank, IsFaulty, IsNothing, IsWrong, IsWrongIn, LineReports, Reports, ReportsName, TextReports};
-ghost use Rattle.cops_import.specs.Asked.{IsWrongOf, ReportsKind};
+ghost use Rattle.cops_import.specs.Line.{FoundNothing, IsAsked, IsBlank, IsFaulty, IsNothing, IsWrong, IsWrongIn, LineGives, Gives, GivesName, TextGives};
+ghost use Rattle.cops_import.specs.Asked.{IsWrongOf, GivesKind};
 
 use crate::fault::JsonLineFault;
 use crate::field::{name_of, value_of, version_of};
@@ -30,50 +30,50 @@ pub(crate) enum Kind {
 
 /// Why a line gives no operation.
 #[derive(Clone, Copy, Debug, PartialEq, Eq)]
-pub(crate) enum Untold {
+pub(crate) enum NotGiven {
     Memory,
     Fault(JsonLineFault),
 }
 
-impl Untold {
+impl NotGiven {
     ghost use Rattle.std.specs.Prelude.{◌≡◌};
 
     /// Why a line gives no operation if one of its members was not read. `fault` is the line's fault if the member does
     /// not have the right form.
-    fn of(unread: Unread, fault: JsonLineFault) -> Untold
-        ensures memory { unread ≡ Unread.Memory → result ≡ Untold.Memory }
-        ensures form { unread ≡ Unread.Form → result ≡ Untold.Fault fault }
+    fn of(unread: Unread, fault: JsonLineFault) -> NotGiven
+        ensures memory { unread ≡ Unread.Memory → result ≡ NotGiven.Memory }
+        ensures form { unread ≡ Unread.Form → result ≡ NotGiven.Fault fault }
     {
         match unread {
-            Unread::Memory => Untold::Memory,
-            Unread::Form => Untold::Fault(fault),
+            Unread::Memory => NotGiven::Memory,
+            Unread::Form => NotGiven::Fault(fault),
         }
     }
 }
 
 /// The operation of a line, nothing if it is blank, or what is wrong with it.
-pub(crate) fn of_line(alloc: Global, line: &[u8]) -> Result<Option<LineOp>, Untold>
-    ensures reported { IfOk result (LineReports line.now) }
-    ensures wrong { (fault : AFault) → result ≡ Err (Untold.Fault fault) → IsFaulty line.now fault }
+pub(crate) fn of_line(alloc: Global, line: &[u8]) -> Result<Option<LineOp>, NotGiven>
+    ensures reported { IfOk result (LineGives line.now) }
+    ensures wrong { (fault : AFault) → result ≡ Err (NotGiven.Fault fault) → IsFaulty line.now fault }
 {
     if is_blank(line) {
         return Ok(None);
     }
     match of_text(alloc, line) {
         Ok(reported) => Ok(Some(reported)),
-        Err(untold) => Err(untold),
+        Err(not_given) => Err(not_given),
     }
 }
 
 /// The operation of a line's JSON text.
-fn of_text(alloc: Global, line: &[u8]) -> Result<LineOp, Untold>
-    ensures reported { IfOk result (TextReports line.now) }
-    ensures wrong { (fault : AFault) → result ≡ Err (Untold.Fault fault) → IsWrongIn line.now fault }
+fn of_text(alloc: Global, line: &[u8]) -> Result<LineOp, NotGiven>
+    ensures reported { IfOk result (TextGives line.now) }
+    ensures wrong { (fault : AFault) → result ≡ Err (NotGiven.Fault fault) → IsWrongIn line.now fault }
 {
     match Json::from_slice(alloc, line) {
         Ok(object) => of_object(alloc, &object),
-        Err(e) if e.is_memory() => Err(Untold::Memory),
-        Err(_) => Err(Untold::Fault(JsonLineFault::NoJson)),
+        Err(e) if e.is_memory() => Err(NotGiven::Memory),
+        Err(_) => Err(NotGiven::Fault(JsonLineFault::NoJson)),
     }
 }
 
@@ -86,17 +86,17 @@ pub(crate) fn is_blank(line: &[u8]) -> bool
 }
 
 /// The operation of an object.
-fn of_object(alloc: Global, object: &Json) -> Result<LineOp, Untold>
-    ensures reported { IfOk result (Reports (view object.now)) }
-    ensures wrong { (fault : AFault) → result ≡ Err (Untold.Fault fault) → IsWrong (view object.now) fault }
+fn of_object(alloc: Global, object: &Json) -> Result<LineOp, NotGiven>
+    ensures reported { IfOk result (Gives (view object.now)) }
+    ensures wrong { (fault : AFault) → result ≡ Err (NotGiven.Fault fault) → IsWrong (view object.now) fault }
 {
     let name = match name_of(alloc, object) {
         Ok(name) => name,
-        Err(unread) => return Err(Untold::of(unread, JsonLineFault::NoClient)),
+        Err(unread) => return Err(NotGiven::of(unread, JsonLineFault::NoClient)),
     };
     match (object.get("put"), object.get("get")) {
-        (None, None) => Err(Untold::Fault(JsonLineFault::NoOperation)),
-        (Some(_), Some(_)) => Err(Untold::Fault(JsonLineFault::BothOperations)),
+        (None, None) => Err(NotGiven::Fault(JsonLineFault::NoOperation)),
+        (Some(_), Some(_)) => Err(NotGiven::Fault(JsonLineFault::BothOperations)),
         (Some(at), None) => of_kind(alloc, name, Kind::Put, at, object),
         (None, Some(at)) => of_kind(alloc, name, Kind::Get, at, object),
     }
@@ -109,32 +109,32 @@ fn of_kind(
     kind: Kind,
     at: &Json,
     object: &Json,
-) -> Result<LineOp, Untold>
-    requires name { ReportsName (view object.now) name }
+) -> Result<LineOp, NotGiven>
+    requires name { GivesName (view object.now) name }
     requires asked { IsAsked (view object.now) kind (view at.now) }
-    ensures reported { IfOk result (Reports (view object.now)) }
-    ensures wrong { (fault : AFault) → result ≡ Err (Untold.Fault fault) → IsWrong (view object.now) fault }
+    ensures reported { IfOk result (Gives (view object.now)) }
+    ensures wrong { (fault : AFault) → result ≡ Err (NotGiven.Fault fault) → IsWrong (view object.now) fault }
 {
     match op(alloc, kind, at, object) {
         Ok(op) => Ok(LineOp { name, op }),
-        Err(untold) => Err(untold),
+        Err(not_given) => Err(not_given),
     }
 }
 
 /// The operation of this kind, whose key is in `at`.
-fn op(alloc: Global, kind: Kind, at: &Json, object: &Json) -> Result<Op, Untold>
-    ensures reported { IfOk result (ReportsKind (view object.now) kind (view at.now)) }
-    ensures wrong { (fault : AFault) → result ≡ Err (Untold.Fault fault) → IsWrongOf (view object.now) kind (view at.now) fault }
+fn op(alloc: Global, kind: Kind, at: &Json, object: &Json) -> Result<Op, NotGiven>
+    ensures reported { IfOk result (GivesKind (view object.now) kind (view at.now)) }
+    ensures wrong { (fault : AFault) → result ≡ Err (NotGiven.Fault fault) → IsWrongOf (view object.now) kind (view at.now) fault }
 {
-    let key = key(alloc, at).map_err(|unread| Untold::of(unread, JsonLineFault::BadKey))?;
+    let key = key(alloc, at).map_err(|unread| NotGiven::of(unread, JsonLineFault::BadKey))?;
     if kind == Kind::Get && found_nothing(object) {
         return Ok(Op::Missed { key });
     }
-    let value = value_of(alloc, object).map_err(|unread| Untold::of(
+    let value = value_of(alloc, object).map_err(|unread| NotGiven::of(
         unread,
         JsonLineFault::BadValue,
     ))?;
-    let version = version_of(object).map_err(|unread| Untold::of(
+    let version = version_of(object).map_err(|unread| NotGiven::of(
         unread,
         JsonLineFault::BadVersion,
     ))?;

@@ -3,7 +3,7 @@ use Rattle.std.proofs.Common.{◌≡◌, Bool, true, false, cond, ℕ, ◌+◌, 
 use Rattle.std.specs.List.{count_by, sum_by}
 use Rattle.std.proofs.lemmas.Bool.{cases_Bool, cases_lt}
 use Rattle.std.proofs.lemmas.List.{get_or-set_other, get_or-set_same, length-append}
-use Rattle.std.proofs.lemmas.List.Sums.{sum_by-append, sum_by-set, sum_by_push}
+use Rattle.std.proofs.lemmas.List.Sums.{sum_by-set, sum_by_push}
 use Rattle.cops_node.specs.declared.event.NodeEvent.{NodeEvent}
 use Rattle.cops_node.specs.declared.event.NodeEvent.TheVariants.{Put, Mark, Settle}
 use Rattle.cops_node.specs.declared.outcome.Outcome.{Outcome}
@@ -12,7 +12,7 @@ use Rattle.cops_types.specs.declared.refusal.Refusal.{Refusal}
 use Rattle.cops_types.specs.declared.refusal.Refusal.TheVariants.{NotHeld, UnknownDc}
 use Rattle.cops_node.specs.Book.{entry}
 use Rattle.cops_cluster.specs.Cluster.{IsNode}
-use Rattle.cops_cluster.specs.Shares.{Adds, AddsAtMostOne, AddsEntry, is_of_node, made}
+use Rattle.cops_cluster.specs.Shares.{Adds, AddsEntry, is_of_node, made}
 use Rattle.cops_cluster.specs.declared.cluster.Cluster.{Cluster}
 use Rattle.cops_cluster.specs.declared.share.Made.{Made}
 use Rattle.cops_cluster.specs.declared.share.Share.{Share}
@@ -20,7 +20,6 @@ use Rattle.cops_link.specs.Link.{seen, taken}
 use Rattle.cops_link.specs.declared.ends.LinkOut.{LinkOut}
 use Rattle.cops_replication.specs.Answers.{answer_to}
 use Rattle.cops_replication.specs.Doing.{advances, frames_taken, is_advance}
-use Rattle.cops_replication.specs.Shares.{Gains}
 use Rattle.cops_replication.specs.declared.arrival.NodeAnswer.TheVariants.{Marked as WasMarked, Settled as WasSettled}
 
 -- ---- entries that count
@@ -33,14 +32,6 @@ one_more a b node event outcome adds =
 
 same_entries : (a b : Share) → b.entries.items ≡ a.entries.items → advances b ≡ advances a
 same_entries a b same = ap (λ (l : List Made). count_by (λ (m : Made). is_advance m.entry.event m.entry.outcome) l) same
-
--- a step that never counts
-pub advances_none : (a b : Share) (node : ℕ) (event : NodeEvent) → ((outcome : Outcome) → is_advance event outcome ≡ false) → AddsAtMostOne a.entries.items b.entries.items node event → advances b ≡ advances a
-advances_none a b node event never most =
-    elim most [
-      | inl same ↦ same_entries a b same
-      | inr one ↦ one_more a b node event one.0 one.1 ∙ ap (λ (x : Bool). advances a + cond x 1 0) (never one.0) ∙ omega arith
-    ]
 
 -- a refusal does not count
 refused_none : (event : NodeEvent) (refusal : Refusal) → is_advance event (Refused refusal) ≡ false
@@ -98,11 +89,6 @@ unsettled_is version Settled other = absurd (other refl)
 unsettled_is version outcome other = refl
 
 -- ---- shares that gain
-
-pub advances_more : (a b : Share) → Gains a b → advances a ≤ advances b
-advances_more a b gains =
-    let count : Made → ℕ = λ (m : Made). cond (is_advance m.entry.event m.entry.outcome) 1 0 in
-    omega (arith, ap (λ (l : List Made). sum_by count l) gains.entries, sum_by-append count a.entries.items gains.more)
 
 -- ---- links
 

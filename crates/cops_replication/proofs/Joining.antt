@@ -94,25 +94,6 @@ pub record MadeBelow (below from capacity : ℕ) (ins : List LinkIn) (before aft
   pub done : (to : ℕ) → to < below → to ≢ from → GainsEnd (slice_get ins (place_beside from to)) (slice_index_or before to []) (slice_index_or after to [])
   pub rest : (to : ℕ) → below ≤ to → slice_index_or after to [] ≡ slice_index_or before to []
 
-pub made_none : (from capacity : ℕ) (before : List (List LinkOut)) → MadeBelow 0 from capacity [] before before
-made_none from capacity before = record {
-  len = sym (place_low from 0 (omega arith));
-  fresh = λ k d less. absurd (omega (arith, less));
-  own = refl;
-  done = λ to less. absurd (omega (arith, less));
-  rest = λ to le. refl;
-}
-
-pub made_own : (to from capacity : ℕ) (ins : List LinkIn) (before after : List (List LinkOut)) → to ≡ from → MadeBelow to from capacity ins before after
-    → MadeBelow (to + 1) from capacity ins before after
-made_own to from capacity ins before after is p = record {
-  len = p.len ∙ subst (λ (n : ℕ). place_beside from n ≡ place_beside from (n + 1)) (sym is) (sym (place_own from));
-  fresh = p.fresh;
-  own = p.own;
-  done = λ k less ne. p.done k (omega (arith, less, ne, is)) ne;
-  rest = λ k le. p.rest k (omega (arith, le));
-}
-
 pub made_one : (to from capacity : ℕ) (ins : List LinkIn) (i : LinkIn) (o : LinkOut) (before : List (List LinkOut)) (outs : List (Vec LinkOut)) (d new : Vec LinkOut)
     → to < length outs → to ≢ from → MadeBelow to from capacity ins before (rows outs) → new.items ≡ (get_or outs to d).items ++ o ∷ []
     → IsLink i o × (sent i ≡ []) × (taken o ≡ []) × (known_room i ≡ capacity)
@@ -142,10 +123,6 @@ made_one to from capacity ins i o before outs d new within ne p more link =
           ];
       rest = λ k le. row_set_other outs to k new (λ e. absurd (omega (arith, e, le))) ∙ p.rest k (omega (arith, le));
     }
-
-pub made_all : (below from capacity : ℕ) (ins : List LinkIn) (before after : List (List LinkOut)) → below ≡ length before → MadeBelow below from capacity ins before after
-    → GainsEnds from ins before after
-made_all below from capacity ins before after all p = record { own = p.own; others = λ to less ne. p.done to (omega (arith, less, all)) ne }
 
 -- ---- the senders
 

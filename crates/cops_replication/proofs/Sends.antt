@@ -26,12 +26,6 @@ sends_trans x y z p q = record {
   due = p.due ∙ ap (λ l. p.more ++ l) q.due ∙ sym (append_assoc p.more q.more z.due);
 }
 
--- sending nothing on a lane
-pub sends_nothing : (puts : List PutRecord) (x : ALane) (a b : Lane) → Sends x (shown puts a) → SameIn a.link b.link → sent b.link ≡ sent a.link → b.next ≡ a.next → Sends x (shown puts b)
-sends_nothing puts x a b p same sents next =
-    let one : Sends (shown puts a) (shown puts b) = record { same = same; more = []; sent = sents ∙ sym (append-nil (sent a.link)); due = ap (λ n. map encoded (drop n puts)) (sym next) } in
-    sends_trans x (shown puts a) (shown puts b) p one
-
 -- sending the frame of the next put on a lane
 pub sends_one : (puts : List PutRecord) (x : ALane) (a b : Lane) (put : PutRecord) → Sends x (shown puts a) → a.next < length puts → get_or puts a.next put ≡ put → SameIn a.link b.link → sent b.link ≡ sent a.link ++ encoded put ∷ [] → b.next ≡ a.next + 1 → Sends x (shown puts b)
 sends_one puts x a b put p less is same sents next =

@@ -14,9 +14,6 @@ out_trans a b c p q = ((q.0.0 ∙ p.0.0, q.0.1 ∙ p.0.1, q.0.2 ∙ p.0.2, q.0.3
 pub takes_none : (most : ℕ) (a b : LinkOut) → SameOut a b → taken b ≡ taken a → TakesUpTo most a b
 takes_none most a b same is = record { same = same; more = []; taken = is ∙ sym (append-nil (taken a)); few = omega arith }
 
-pub takes_one : (a b : LinkOut) (frame : List ℕ) → SameOut a b → taken b ≡ taken a ++ frame ∷ [] → TakesUpTo 1 a b
-takes_one a b frame same is = record { same = same; more = frame ∷ []; taken = is; few = omega arith }
-
 pub takes_trans : (m n : ℕ) (a b c : LinkOut) → TakesUpTo m a b → TakesUpTo n b c → TakesUpTo (m + n) a c
 takes_trans m n a b c p q = record {
   same = out_trans a b c p.same q.same;

@@ -58,7 +58,7 @@ impl NodeAnswer {
     }
 }
 
-/// Whether the put waits at its node after this answer to its delivery, given its stage before the delivery.
+/// Whether the put waits at its node after this answer to its delivery, given its state before the delivery.
 pub fn waits(answer: NodeAnswer, state: ArrivalState) -> bool {
     match answer {
         NodeAnswer::Waits => true,

@@ -174,7 +174,7 @@ impl Receiver {
         let copy = arrival.put.clone().or(Err(TurnFault::Memory))?;
         let answer = self.deliver(rt, cluster, gate, copy)?;
         if waits(answer, state) {
-            self.set_stage(ArrivalState::Waiting);
+            self.set_state(ArrivalState::Waiting);
             return self.keep();
         }
         self.forget();
@@ -195,14 +195,14 @@ impl Receiver {
         ensures fault { IfErr result (IsFaultAt (G.may_hold gate.now) cluster.now self.old.dc) }
     {
         let Ok(outcome) = cluster.deliver(rt, &mut self.share, gate, self.dc, copy) else {
-            self.set_stage(ArrivalState::Unknown);
+            self.set_state(ArrivalState::Unknown);
             return Err(TurnFault::Held);
         };
         let answer = NodeAnswer::of(outcome)?;
         Ok(answer)
     }
 
-    fn set_stage(&mut self, state: ArrivalState)
+    fn set_state(&mut self, state: ArrivalState)
         ensures same { IsSame self.old self.new }
         ensures share { self.new.share ≡ self.old.share }
     {

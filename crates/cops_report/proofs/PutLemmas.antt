@@ -76,12 +76,12 @@ pub got_once : (h : Sessions) (p g : OpName) (v : ℕ) (s : SourceStep h p g) �
 got_once h p g v s got = (let e : Some (read s.key s.content s.version) ≡ Some (read got.0 got.1 v) = sym s.got ∙ got.2 in cc)
 
 -- the first i puts are marked where they are sources
-abbrev pub BearersMarked : Sessions → Table → Mark → List VersionedPut → ℕ → Type 0
-BearersMarked h t mark puts i = (k : ℕ) (d : VersionedPut) → k < i → SourceStep h (get_or puts k d).name mark.next → IsMarked t (get_or puts k d).name
+abbrev pub HoldersMarked : Sessions → Table → Mark → List VersionedPut → ℕ → Type 0
+HoldersMarked h t mark puts i = (k : ℕ) (d : VersionedPut) → k < i → SourceStep h (get_or puts k d).name mark.next → IsMarked t (get_or puts k d).name
 
-pub bearers_more : (h : Sessions) (mark : Mark) (s t : Table) (names more : List OpName) (puts : List VersionedPut) (i : ℕ) (d : VersionedPut) → i < length puts → BearersMarked h s mark puts i
-    → Gains h mark s t names more → (SourceStep h (get_or puts i d).name mark.next → IsMarked t (get_or puts i d).name) → BearersMarked h t mark puts (i + 1)
-bearers_more h mark s t names more puts i d lt all g here k e below st = elim (cases_lt k i) [
+pub holders_more : (h : Sessions) (mark : Mark) (s t : Table) (names more : List OpName) (puts : List VersionedPut) (i : ℕ) (d : VersionedPut) → i < length puts → HoldersMarked h s mark puts i
+    → Gains h mark s t names more → (SourceStep h (get_or puts i d).name mark.next → IsMarked t (get_or puts i d).name) → HoldersMarked h t mark puts (i + 1)
+holders_more h mark s t names more puts i d lt all g here k e below st = elim (cases_lt k i) [
   | inl low ↦ (let m = all k e low st in (m.0, g.kept (get_or puts k e).name m.0 m.1))
   | inr high ↦
       let same : i ≡ k = omega arith in
@@ -90,9 +90,9 @@ bearers_more h mark s t names more puts i d lt all g here k e below st = elim (c
 ]
 
 -- all sources are marked where those among the first i puts are, and no later put has the version
-pub bearers_all : (h : Sessions) (t : Table) (mark : Mark) (puts : List VersionedPut) (i v : ℕ) → BearersMarked h t mark puts i
+pub holders_all : (h : Sessions) (t : Table) (mark : Mark) (puts : List VersionedPut) (i v : ℕ) → HoldersMarked h t mark puts i
     → ((k : ℕ) (d : VersionedPut) → i ≤ k → k < length puts → (get_or puts k d).version ≢ v) → (n : OpName) → HasPut puts n v → SourceStep h n mark.next → IsMarked t n
-bearers_all h t mark puts i v marked further n has st = elim (cases_lt has.0 i) [
+holders_all h t mark puts i v marked further n has st = elim (cases_lt has.0 i) [
   | inl below ↦
       let at = has.2 in
       subst (λ (p : VersionedPut). IsMarked t p.name) at (marked has.0 (put_of n v) below (subst (λ (p : VersionedPut). SourceStep h p.name mark.next) (sym at) st))

@@ -118,8 +118,8 @@ fn mark_sources(
 {
     match history.got_version(mark.next) {
         Some(version) => {
-            let bearers = from_version(puts, version);
-            mark_holders(history, bearers, version, marks, names, mark)
+            let holders = from_version(puts, version);
+            mark_holders(history, holders, version, marks, names, mark)
         }
         None => Ok(()),
     }

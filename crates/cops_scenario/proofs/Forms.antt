@@ -8,7 +8,7 @@ use Rattle.serde_json.specs.Find.{as_array}
 use Rattle.serde_json.specs.declared.value.Value.{Value}
 use Rattle.cops_scenario.specs.declared.script.ScriptedClient.{ScriptedClient}
 use Rattle.cops_json.specs.Json.{text_json}
-use Rattle.cops_scenario.specs.File.{list_json, one_json, ReportsClient, ReportClients}
+use Rattle.cops_scenario.specs.File.{list_json, one_json, GivesClient, GiveClients}
 
 items_alike : (xs ys : List Data) → items_of xs ≡ items_of ys → xs ≡ ys
 items_alike [] [] e = refl
@@ -62,7 +62,7 @@ no_such_item json P (v ∷ vs) (suc i) item (x ∷ xs) within is none e each =
 
 -- an item of a list encodes one of the clients that the list encodes
 pub no_such_client : (P : ScriptedClient → Type 0) (items : List Value) (i : ℕ) (item : Value) (cs : List ScriptedClient)
-    → i < length items → item ≡ get_or items i item → ((c : ScriptedClient) → P c → ReportsClient (view item) c → ⊥) → ReportClients (map view items) cs → All P cs → ⊥
+    → i < length items → item ≡ get_or items i item → ((c : ScriptedClient) → P c → GivesClient (view item) c → ⊥) → GiveClients (map view items) cs → All P cs → ⊥
 no_such_client P [] i item cs within is none reported each = omega arith
 no_such_client P (v ∷ vs) i item [] within is none reported each = reported
 no_such_client P (v ∷ vs) zero item (c ∷ cs) within is none reported each =
@@ -71,7 +71,7 @@ no_such_client P (v ∷ vs) zero item (c ∷ cs) within is none reported each =
 no_such_client P (v ∷ vs) (suc i) item (c ∷ cs) within is none reported each =
     no_such_client P vs i item cs (omega arith) is none reported.1 (All-tail P c cs each)
 
-pub as_many : (ds : List Data) (cs : List ScriptedClient) → ReportClients ds cs → length ds ≡ length cs
+pub as_many : (ds : List Data) (cs : List ScriptedClient) → GiveClients ds cs → length ds ≡ length cs
 as_many [] [] reported = refl
 as_many [] (c ∷ cs) reported = absurd reported
 as_many (d ∷ ds) [] reported = absurd reported

@@ -15,7 +15,7 @@ use Rattle.cops_scenario.specs.declared.scenario.TheConstants.{DEFAULT_FORMAT, D
 use Rattle.cops_scenario.specs.Scenario.{AScenario}
 use Rattle.cops_scenario.specs.Fields.{format_at, name_of, number_or}
 use Rattle.cops_scenario.specs.Limits.{AreLegalEvents, IsLegalClient, IsLegalScenario}
-use Rattle.cops_scenario.specs.File.{IsNoNumberOf, IsNoText, ReportsNumber, IsTextOf, IsWrong, IsWrongText, ReportsScenario}
+use Rattle.cops_scenario.specs.File.{IsNoNumberOf, IsNoText, GivesNumber, IsTextOf, IsWrong, IsWrongText, GivesScenario}
 
 -- a value with a member is an object
 no_member : (k : List ℕ) (root d : Data) → as_object root ≡ None → get k root ≡ Some d → ⊥
@@ -27,7 +27,7 @@ no_member k (array ds) d none e = cc
 no_member k (object ms) d none e = cc
 
 -- a number within its range is not wrong
-no_wrong : (missing : Option ℕ) (least most : ℕ) (d : Option Data) (n : ℕ) → ReportsNumber missing d n → least ≤ n → n ≤ most → IsNoNumberOf missing least most d → ⊥
+no_wrong : (missing : Option ℕ) (least most : ℕ) (d : Option Data) (n : ℕ) → GivesNumber missing d n → least ≤ n → n ≤ most → IsNoNumberOf missing least most d → ⊥
 no_wrong None least most d n reported low high wrong = wrong n low high reported
 no_wrong (Some m) least most None n reported low high wrong = wrong.0 refl
 no_wrong (Some m) least most (Some d) n reported low high wrong = wrong.1 n low high (ap (λ (x : Data). Some x) reported)
@@ -37,17 +37,17 @@ number_in_range : (format : Format) → (1 ≤ number_of format) × (number_of f
 number_in_range One = (omega arith, omega arith)
 number_in_range Two = (omega arith, omega arith)
 
-number_reported : (d : Option Data) (n : ℕ) → ReportsNumber (Some DEFAULT_FORMAT) d n → number_or DEFAULT_FORMAT d ≡ n
+number_reported : (d : Option Data) (n : ℕ) → GivesNumber (Some DEFAULT_FORMAT) d n → number_or DEFAULT_FORMAT d ≡ n
 number_reported None n reported = sym reported
 number_reported (Some d) n reported = ap (λ x. number_or DEFAULT_FORMAT (Some x)) reported
 
 -- the format of the file is the scenario's
-format_reported : (root : Data) (s : AScenario) → ReportsScenario root s → format_at root ≡ s.format
+format_reported : (root : Data) (s : AScenario) → GivesScenario root s → format_at root ≡ s.format
 format_reported root s reported =
     ap (λ n. unwrap_or (format_of_number n) One) (number_reported (get (name_of FormatField) root) (number_of s.format) reported.numbers.0)
     ∙ ap (λ o. unwrap_or o One) (number_again s.format)
 
-never_wrong : (root : Data) (s : AScenario) (field : Field) → ReportsScenario root s → IsLegalScenario s
+never_wrong : (root : Data) (s : AScenario) (field : Field) → GivesScenario root s → IsLegalScenario s
     → IsWrong root field → ⊥
 never_wrong root s Root reported legal wrong = no_member (name_of Clients) root _ wrong reported.clients.1
 never_wrong root s FormatField reported legal wrong =

@@ -9,7 +9,7 @@ use Rattle.serde_json.specs.declared.value.Value.{Value}
 use Rattle.cops_core.specs.declared.event.Event.{Event}
 use Rattle.cops_scenario.specs.declared.script.ScriptOp.{ScriptOp}
 use Rattle.cops_scenario.specs.declared.script.ScriptedClient.{ScriptedClient}
-use Rattle.cops_scenario.specs.File.{AreUnscripted, IsListOrMissing, ReportClients, list_json, op_json}
+use Rattle.cops_scenario.specs.File.{AreUnscripted, IsListOrMissing, GiveClients, list_json, op_json}
 use Rattle.cops_scenario.specs.Limits.{AreEventsOf}
 use Rattle.cops_scenario.proofs.Forms.{same_items}
 
@@ -37,13 +37,13 @@ no_ops (op ∷ ops) None e reported = let no : ⊥ = cc in absurd no
 no_ops (op ∷ ops) (Some d) e reported = let no : ⊥ = cc in absurd no
 
 -- a client that is listed without a script has an empty one
-pub all_empty : (ds : List Data) (cs : List ScriptedClient) → ReportClients ds cs → All (λ d. get (codes "script") d ≡ None) ds → All (λ c. c.script.items ≡ []) cs
+pub all_empty : (ds : List Data) (cs : List ScriptedClient) → GiveClients ds cs → All (λ d. get (codes "script") d ≡ None) ds → All (λ c. c.script.items ≡ []) cs
 all_empty ds [] reported h = All-nil (λ (c : ScriptedClient). c.script.items ≡ [])
 all_empty [] (c ∷ cs) reported h = absurd reported
 all_empty (d ∷ ds) (c ∷ cs) reported h =
     let P : Data → Type 0 = λ d. get (codes "script") d ≡ None in
     All-cons (λ (c : ScriptedClient). c.script.items ≡ []) c cs (no_ops c.script.items (get (codes "script") d) (All-head P d ds h) reported.0.script) (all_empty ds cs reported.1 (All-tail P d ds h))
 
-pub are_events : (ds : List Data) (cs : List ScriptedClient) (events : Option (List Event)) → ReportClients ds cs → AreUnscripted ds events → IfSome events (λ es. length es ≤ 100000) → AreEventsOf cs events
+pub are_events : (ds : List Data) (cs : List ScriptedClient) (events : Option (List Event)) → GiveClients ds cs → AreUnscripted ds events → IfSome events (λ es. length es ≤ 100000) → AreEventsOf cs events
 are_events ds cs None reported h few = tt
 are_events ds cs (Some es) reported h few = (few, all_empty ds cs reported h)

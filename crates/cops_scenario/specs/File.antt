@@ -60,38 +60,38 @@ IsListOrMissing items None = items ≡ []
 IsListOrMissing items (Some d) = d ≡ list_json items
 
 -- the whole number of a member, or the default if there is no member
-abbrev pub ReportsNumber : Option ℕ → Option Data → ℕ → Type 0
-ReportsNumber None d n = d ≡ Some (number_json n)
-ReportsNumber (Some missing) None n = n ≡ missing
-ReportsNumber (Some missing) (Some d) n = d ≡ number_json n
+abbrev pub GivesNumber : Option ℕ → Option Data → ℕ → Type 0
+GivesNumber None d n = d ≡ Some (number_json n)
+GivesNumber (Some missing) None n = n ≡ missing
+GivesNumber (Some missing) (Some d) n = d ≡ number_json n
 
 -- the whole number of a field
-abbrev pub ReportsNumberAt : Data → Field → ℕ → Type 0
-ReportsNumberAt root field n = IfSome (range_of field) (λ range. ReportsNumber range.missing (get (name_of field) root) n)
+abbrev pub GivesNumberAt : Data → Field → ℕ → Type 0
+GivesNumberAt root field n = IfSome (range_of field) (λ range. GivesNumber range.missing (get (name_of field) root) n)
 
 -- the whole numbers of a scenario
-abbrev pub ReportsNumbers : Data → AScenario → Type 0
-ReportsNumbers root s =
-    ReportsNumberAt root FormatField (number_of s.format) × ReportsNumberAt root DataCentres s.place.dcs × ReportsNumberAt root Link s.link × ReportsNumberAt root Turns s.turns × ReportsNumberAt root Retries s.retries
-    × ReportsNumberAt root Repeat s.repeat × ReportsNumberAt root Hold s.hold
+abbrev pub GivesNumbers : Data → AScenario → Type 0
+GivesNumbers root s =
+    GivesNumberAt root FormatField (number_of s.format) × GivesNumberAt root DataCentres s.place.dcs × GivesNumberAt root Link s.link × GivesNumberAt root Turns s.turns × GivesNumberAt root Retries s.retries
+    × GivesNumberAt root Repeat s.repeat × GivesNumberAt root Hold s.hold
 
 -- an object with the client's data centre and its script
-pub record ReportsClient (d : Data) (c : ScriptedClient) : Type 0 where
+pub record GivesClient (d : Data) (c : ScriptedClient) : Type 0 where
   pub at : get (codes "at") d ≡ Some (number_json c.at)
   pub script : IsListOrMissing (map op_json c.script.items) (get (codes "script") d)
 
 -- one for each client, in order
-abbrev pub ReportClients : List Data → List ScriptedClient → Type 0
-ReportClients [] [] = Unit {0}
-ReportClients (d ∷ ds) (c ∷ cs) = ReportsClient d c × ReportClients ds cs
-ReportClients [] (c ∷ cs) = ⊥
-ReportClients (d ∷ ds) [] = ⊥
+abbrev pub GiveClients : List Data → List ScriptedClient → Type 0
+GiveClients [] [] = Unit {0}
+GiveClients (d ∷ ds) (c ∷ cs) = GivesClient d c × GiveClients ds cs
+GiveClients [] (c ∷ cs) = ⊥
+GiveClients (d ∷ ds) [] = ⊥
 
 -- the events of a list, or none if it is missing
-abbrev pub ReportsEvents : Option Data → Option (List Event) → Type 0
-ReportsEvents None events = events ≡ None
-ReportsEvents (Some d) None = ⊥
-ReportsEvents (Some d) (Some events) = d ≡ list_json (map event_json events)
+abbrev pub GivesEvents : Option Data → Option (List Event) → Type 0
+GivesEvents None events = events ≡ None
+GivesEvents (Some d) None = ⊥
+GivesEvents (Some d) (Some events) = d ≡ list_json (map event_json events)
 
 -- if there are events, no client has a script, not even an empty one
 abbrev pub AreUnscripted : List Data → Option (List Event) → Type 0
@@ -99,11 +99,11 @@ AreUnscripted ds None = Unit {0}
 AreUnscripted ds (Some events) = All (λ d. get (codes "script") d ≡ None) ds
 
 -- the file's root has all parts of the scenario
-pub record ReportsScenario (root : Data) (s : AScenario) : Type 0 where
-  pub numbers : ReportsNumbers root s
+pub record GivesScenario (root : Data) (s : AScenario) : Type 0 where
+  pub numbers : GivesNumbers root s
   pub splits : IsListOrMissing (map text_json s.place.splits) (get (name_of Splits) root)
-  pub clients : (ds : List Data) × (get (name_of Clients) root ≡ Some (list_json ds)) × ReportClients ds s.clients × AreUnscripted ds s.events
-  pub events : ReportsEvents (get (name_of Events) root) s.events
+  pub clients : (ds : List Data) × (get (name_of Clients) root ≡ Some (list_json ds)) × GiveClients ds s.clients × AreUnscripted ds s.events
+  pub events : GivesEvents (get (name_of Events) root) s.events
 
 -- no whole number from the least to the most
 abbrev pub IsNoNumber : ℕ → ℕ → Option Data → Type 0
@@ -119,17 +119,17 @@ abbrev pub IsWrongNumber : Data → Field → Type 0
 IsWrongNumber root field = IfSome (range_of field) (λ range. IsNoNumberOf range.missing range.least range.most (get (name_of field) root))
 
 -- the field has no split keys within their limits
-abbrev pub ReportsNoSplits : Data → Type 0
-ReportsNoSplits root = (splits : List (List ℕ)) → AreSplits splits → IsListOrMissing (map text_json splits) (get (name_of Splits) root) → ⊥
+abbrev pub GivesNoSplits : Data → Type 0
+GivesNoSplits root = (splits : List (List ℕ)) → AreSplits splits → IsListOrMissing (map text_json splits) (get (name_of Splits) root) → ⊥
 
 -- the field has no clients within their limits, at most 64
-abbrev pub ReportsNoClients : Data → Type 0
-ReportsNoClients root = (ds : List Data) (clients : List ScriptedClient) → get (name_of Clients) root ≡ Some (list_json ds) → ReportClients ds clients
+abbrev pub GivesNoClients : Data → Type 0
+GivesNoClients root = (ds : List Data) (clients : List ScriptedClient) → get (name_of Clients) root ≡ Some (list_json ds) → GiveClients ds clients
     → length clients ≤ MAX_CLIENTS → All (IsLegalClient (format_at root) (number_at root DataCentres)) clients → ⊥
 
 -- the field has no events within their limits that go with clients without scripts
-abbrev pub ReportsNoEvents : Data → Type 0
-ReportsNoEvents root = (ds : List Data) (events : Option (List Event)) → get (name_of Clients) root ≡ Some (list_json ds) → ReportsEvents (get (name_of Events) root) events
+abbrev pub GivesNoEvents : Data → Type 0
+GivesNoEvents root = (ds : List Data) (events : Option (List Event)) → get (name_of Clients) root ≡ Some (list_json ds) → GivesEvents (get (name_of Events) root) events
     → AreLegalEvents (format_at root) events → AreUnscripted ds events → ⊥
 
 -- the field is wrong: it is missing without a default, or has nothing that is legal there
@@ -137,14 +137,14 @@ abbrev pub IsWrong : Data → Field → Type 0
 IsWrong root Root = as_object root ≡ None
 IsWrong root FormatField = IsWrongNumber root FormatField
 IsWrong root DataCentres = IsWrongNumber root DataCentres
-IsWrong root Splits = ReportsNoSplits root
+IsWrong root Splits = GivesNoSplits root
 IsWrong root Link = IsWrongNumber root Link
 IsWrong root Turns = IsWrongNumber root Turns
 IsWrong root Retries = IsWrongNumber root Retries
 IsWrong root Repeat = IsWrongNumber root Repeat
 IsWrong root Hold = IsWrongNumber root Hold
-IsWrong root Clients = ReportsNoClients root
-IsWrong root Events = ReportsNoEvents root
+IsWrong root Clients = GivesNoClients root
+IsWrong root Events = GivesNoEvents root
 
 -- a whole number from the least to the most
 abbrev pub IsNumber : ℕ → ℕ → Option Data → Type 0
@@ -171,9 +171,9 @@ IsRight root Retries = IsRightNumber root Retries
 IsRight root Repeat = IsRightNumber root Repeat
 IsRight root Hold = IsRightNumber root Hold
 IsRight root Clients =
-    (ds : List Data) × (clients : List ScriptedClient) × (get (name_of Clients) root ≡ Some (list_json ds)) × ReportClients ds clients
+    (ds : List Data) × (clients : List ScriptedClient) × (get (name_of Clients) root ≡ Some (list_json ds)) × GiveClients ds clients
     × (length clients ≤ MAX_CLIENTS) × All (IsLegalClient (format_at root) (number_at root DataCentres)) clients
-IsRight root Events = (events : Option (List Event)) × ReportsEvents (get (name_of Events) root) events × AreLegalEvents (format_at root) events
+IsRight root Events = (events : Option (List Event)) × GivesEvents (get (name_of Events) root) events × AreLegalEvents (format_at root) events
 
 -- the fields that are checked before a field
 abbrev pub before : Field → List Field
@@ -196,7 +196,7 @@ AreRightBefore root field = All (IsRight root) (before field)
 -- the bytes are a JSON text of this scenario, which is within its limits
 abbrev pub IsTextOf : List ℕ → AScenario → Type 0
 IsTextOf bytes s =
-    (root : Data) × IsUtf8 bytes × (read bytes ≡ Some root) × ReportsScenario root s × IsLegalScenario s
+    (root : Data) × IsUtf8 bytes × (read bytes ≡ Some root) × GivesScenario root s × IsLegalScenario s
 
 -- the bytes are no JSON text
 abbrev pub IsNoText : List ℕ → Type 0

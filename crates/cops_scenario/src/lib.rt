@@ -1,6 +1,7 @@
 //! Scenario files: the parts of a cluster, and the operations of its clients, as one JSON object. Either each client
-//! has a script, or there is a list of events, which are the steps of the world. Stands on the world's events and on
-//! `serde_json`. The layers above use that a scenario is within its limits, and the printed line of an outcome.
+//! has a script, or there is a list of events, which are the steps of the world. Depends on the world's events, on how
+//! commands read and end, and on `serde_json`. The layers above use that a scenario is within its limits, that a
+//! command reads the scenario of its input's bytes, and the printed line of an outcome.
 #![tactic(auto)]
 
 mod event;

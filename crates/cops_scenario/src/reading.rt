@@ -4,7 +4,7 @@ ghost use Rattle.std.specs.Bool.{OnFalse, OnTrue};
 ghost use Rattle.serde_json.specs.Data.{Data};
 ghost use Rattle.serde_json.specs.View.{view};
 ghost use Rattle.cops_json.specs.Json.{text_json};
-ghost use Rattle.cops_scenario.specs.File.{list_json, AreRightBefore, AreUnscripted, IsListOrMissing, ReportsClient, ReportClients, ReportsEvents, ReportsNumberAt, ReportsScenario, IsRightNumber, IsWrongNumber, IsWrong};
+ghost use Rattle.cops_scenario.specs.File.{list_json, AreRightBefore, AreUnscripted, IsListOrMissing, GivesClient, GiveClients, GivesEvents, GivesNumberAt, GivesScenario, IsRightNumber, IsWrongNumber, IsWrong};
 ghost use Rattle.cops_scenario.specs.declared.fault.Field.{Field as AField};
 ghost use Rattle.serde_json.specs.Find.{get};
 ghost use Rattle.cops_types.specs.declared.limits.TheConstants.{MAX_DCS};
@@ -49,7 +49,7 @@ impl Scenario {
 
 /// Reads a scenario from a JSON value.
 fn scenario(alloc: Global, root: &Json) -> Result<Scenario, ScenarioFault>
-    ensures reported { IfOk result (ReportsScenario (view root.now)) }
+    ensures reported { IfOk result (GivesScenario (view root.now)) }
     ensures legal { IfOk result IsLegalScenario }
     ensures wrong { (field : AField) → result ≡ Err (ScenarioFault.BadField field) → IsWrong (view root.now) field }
     ensures first { (field : AField) → result ≡ Err (ScenarioFault.BadField field) → AreRightBefore (view root.now) field }
@@ -75,7 +75,7 @@ fn scenario(alloc: Global, root: &Json) -> Result<Scenario, ScenarioFault>
         unread,
         Field::Clients,
     ))?;
-    let events = events_beside(alloc, format, listed, root.get(Field::Events.name())).map_err(
+    let events = events_alone(alloc, format, listed, root.get(Field::Events.name())).map_err(
         |unread| ScenarioFault::of(unread, Field::Events),
     )?;
     Ok(Scenario::new(
@@ -85,7 +85,7 @@ fn scenario(alloc: Global, root: &Json) -> Result<Scenario, ScenarioFault>
 
 /// The format that the file names, or format 1 if it names none.
 fn format_of(root: &Json) -> Result<Format, ScenarioFault>
-    ensures reported { IfOk result (λ format. ReportsNumberAt (view root.now) AField.Format (number_in format)) }
+    ensures reported { IfOk result (λ format. GivesNumberAt (view root.now) AField.Format (number_in format)) }
     ensures value { IfOk result (λ format. format ≡ format_at (view root.now)) }
     ensures right { OnOk result (IsRightNumber (view root.now) AField.Format) }
     ensures wrong { OnErr result (result ≡ Err (ScenarioFault.BadField AField.Format)) }
@@ -101,7 +101,7 @@ fn format_of(root: &Json) -> Result<Format, ScenarioFault>
 /// The whole number of a field, or its default if it is missing.
 fn number_of(root: &Json, field: Field) -> Result<u64, ScenarioFault>
     requires { IsSome (range_of field) }
-    ensures reported { IfOk result (ReportsNumberAt (view root.now) field) }
+    ensures reported { IfOk result (GivesNumberAt (view root.now) field) }
     ensures value { IfOk result (λ n. n ≡ number_at (view root.now) field) }
     ensures range { IfOk result (λ n. IfSome (range_of field) (λ range. (range.least ≤ n) × (n ≤ range.most))) }
     ensures right { OnOk result (IsRightNumber (view root.now) field) }
@@ -160,8 +160,8 @@ fn clients(
     ensures few { IfOk result (λ clients. length clients.items ≤ MAX_CLIENTS) }
     ensures each { IfOk result (λ clients. All (IsClientOf dcs) clients.items) }
     ensures legal { IfOk result (λ clients. All (IsLegalClient format dcs) clients.items) }
-    ensures reported { IfOk result (λ clients. (ds : List Data) × (view json.now ≡ list_json ds) × ReportClients ds clients.items) }
-    ensures none { result ≡ Err Unread.Form → (ds : List Data) (cs : List AClient) → view json.now ≡ list_json ds → ReportClients ds cs → length cs ≤ MAX_CLIENTS → All (IsLegalClient format dcs) cs → ⊥ }
+    ensures reported { IfOk result (λ clients. (ds : List Data) × (view json.now ≡ list_json ds) × GiveClients ds clients.items) }
+    ensures none { result ≡ Err Unread.Form → (ds : List Data) (cs : List AClient) → view json.now ≡ list_json ds → GiveClients ds cs → length cs ≤ MAX_CLIENTS → All (IsLegalClient format dcs) cs → ⊥ }
 {
     let mut clients = Vec::new(alloc);
     for item in list(json, MAX_CLIENTS)? {
@@ -174,8 +174,8 @@ fn clients(
 fn client(alloc: Global, format: Format, dcs: u8, json: &Json) -> Result<ScriptedClient, Unread>
     ensures limits { IfOk result (IsClientOf dcs) }
     ensures legal { IfOk result (IsLegalClient format dcs) }
-    ensures reported { IfOk result (ReportsClient (view json.now)) }
-    ensures none { result ≡ Err Unread.Form → (c : AClient) → IsLegalClient format dcs c → ReportsClient (view json.now) c → ⊥ }
+    ensures reported { IfOk result (GivesClient (view json.now)) }
+    ensures none { result ≡ Err Unread.Form → (c : AClient) → IsLegalClient format dcs c → GivesClient (view json.now) c → ⊥ }
 {
     let at = dc(json.get("at").ok_or(Unread::Form)?)?;
     if at >= dcs {
@@ -188,8 +188,8 @@ fn client(alloc: Global, format: Format, dcs: u8, json: &Json) -> Result<Scripte
     Ok(ScriptedClient { at, script })
 }
 
-/// Reads a list of events, or returns none if it is missing. If there are events, no listed client may have a script.
-fn events_beside(
+/// Reads a list of events, or returns none if it is missing. Events stand alone: no listed client may have a script.
+fn events_alone(
     alloc: Global,
     format: Format,
     listed: &Json,
@@ -197,9 +197,9 @@ fn events_beside(
 ) -> Result<Option<Vec<Event>>, Unread>
     ensures few { IfOk result (λ found. IfSome (option_map (λ e. e.items) found) (λ events. length events ≤ MAX_EVENTS)) }
     ensures legal { IfOk result (λ found. AreLegalEvents format (option_map (λ e. e.items) found)) }
-    ensures reported { IfOk result (λ found. ReportsEvents (option_map (λ v. view v.now) list.entry) (option_map (λ e. e.items) found)) }
-    ensures beside { IfOk result (λ found. (ds : List Data) → view listed.now ≡ list_json ds → AreUnscripted ds (option_map (λ e. e.items) found)) }
-    ensures none { result ≡ Err Unread.Form → (ds : List Data) (reported : Option (List AnEvent)) → view listed.now ≡ list_json ds → ReportsEvents (option_map (λ v. view v.now) list.entry) reported → AreLegalEvents format reported → AreUnscripted ds reported → ⊥ }
+    ensures reported { IfOk result (λ found. GivesEvents (option_map (λ v. view v.now) list.entry) (option_map (λ e. e.items) found)) }
+    ensures alone { IfOk result (λ found. (ds : List Data) → view listed.now ≡ list_json ds → AreUnscripted ds (option_map (λ e. e.items) found)) }
+    ensures none { result ≡ Err Unread.Form → (ds : List Data) (reported : Option (List AnEvent)) → view listed.now ≡ list_json ds → GivesEvents (option_map (λ v. view v.now) list.entry) reported → AreLegalEvents format reported → AreUnscripted ds reported → ⊥ }
 {
     let Some(json) = list else {
         return Ok(None);

@@ -6,8 +6,6 @@ use Rattle.cops_scenario.specs.declared.script.ScriptedClient.{ScriptedClient}
 use Rattle.cops_core.specs.World.{Setting, World}
 use Rattle.cops_node.specs.declared.entry.Entry.{Entry}
 use Rattle.cops_tie.specs.Untied.{IsTiedBefore, IsUntied}
-use Rattle.cops_tie.specs.declared.fault.CheckFault.{CheckFault}
-use Rattle.cops_tie.specs.declared.fault.CheckFault.TheVariants.{Memory, Untied}
 use Rattle.cops_tie.specs.declared.outcome.ClientOutcome.{ClientOutcome}
 use Rattle.cops_tie.specs.Runs.{EndsWell}
 
@@ -21,8 +19,3 @@ pub record FailsAtEnd (s : Setting) (clients : List ScriptedClient) (books : Lis
 -- not a run: the books are not tied, with the ticket of that, or the run does not end well
 abbrev pub IsNoRun : Setting → List ScriptedClient → List (List Entry) → Sessions → List ClientOutcome → ℕ → Type 0
 IsNoRun s clients books sessions outcomes ticket = IsUntied s books sessions ticket ⊎ FailsAtEnd s clients books sessions outcomes ticket
-
--- the ticket of an `Untied` satisfies the predicate
-abbrev pub WhereNoRun : (ℕ → Type 0) → CheckFault → Type 0
-WhereNoRun P Memory = Unit {0}
-WhereNoRun P (Untied ticket) = P ticket

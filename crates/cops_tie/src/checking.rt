@@ -2,10 +2,11 @@ ghost use Rattle.std.specs.Prelude.{◌≡◌, ◌↔◌, ◌+◌, ◌*◌, leng
 ghost use Rattle.cops_types.specs.Verdicts.{HasAcceptedVerdict};
 ghost use Rattle.cops_trace.specs.Text.{sessions_of};
 ghost use Rattle.cops_tie.specs.Runs.{EndsWell, IsRun};
-ghost use Rattle.cops_tie.specs.NoRun.{IsNoRun, WhereNoRun};
+ghost use Rattle.cops_tie.specs.NoRun.{IsNoRun};
+ghost use Rattle.cops_tie.specs.Ticketed.{WhereUntied};
 
 use crate::ending::are_outcomes;
-use crate::fault::{CheckFault, TieFault};
+use crate::fault::TieFault;
 use crate::outcome::ClientOutcome;
 use crate::settling::is_converged;
 use crate::tying::{TiedRun, tied_run};
@@ -29,16 +30,15 @@ pub fn checked(
     entries: &[Vec<Entry>],
     trace: &Trace,
     outcomes: &[ClientOutcome],
-) -> Result<Vec<Event>, CheckFault>
+) -> Result<Vec<Event>, TieFault>
     requires { length entries.now ≡ setting.now.place.dcs * (length setting.now.place.splits + 1) }
     ensures ok { IfOk result (λ events. IsRun setting.now clients.now (map (λ b. b.items) entries.now) (sessions_of trace.now) events.items outcomes.now) }
     ensures accepted { OnOk result (HasAcceptedVerdict (sessions_of trace.now)) }
-    ensures untied { IfErr result (WhereNoRun (IsNoRun setting.now clients.now (map (λ b. b.items) entries.now) (sessions_of trace.now) outcomes.now)) }
+    ensures untied { IfErr result (WhereUntied (IsNoRun setting.now clients.now (map (λ b. b.items) entries.now) (sessions_of trace.now) outcomes.now)) }
 {
     let tied = match tied_run(alloc, setting, entries, trace) {
         Ok(tied) => tied,
-        Err(TieFault::Memory) => return Err(CheckFault::Memory),
-        Err(TieFault::Untied { ticket }) => return Err(CheckFault::Untied { ticket }),
+        Err(fault) => return Err(fault),
     };
     let TiedRun {
         events,
@@ -51,11 +51,11 @@ pub fn checked(
         Ok(true) => Ok(events),
         Ok(false) => {
             drop(events);
-            Err(CheckFault::Untied { ticket: next })
+            Err(TieFault::Untied { ticket: next })
         }
         Err(Memory) => {
             drop(events);
-            Err(CheckFault::Memory)
+            Err(TieFault::Memory)
         }
     }
 }

@@ -18,7 +18,7 @@ mod tying;
 
 pub use checking::checked;
 pub use cops_node::{Book, Entry, IssuedPuts, Recorded};
-pub use fault::{CheckFault, TieFault};
+pub use fault::TieFault;
 pub use laws::{no_run_is_not_run, tied_books_have_one_end, untied_is_not_tied};
 pub use outcome::ClientOutcome;
 pub use tying::{TiedRun, tie, tied_run};

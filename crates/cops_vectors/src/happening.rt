@@ -1,8 +1,8 @@
 //! The events of a world.
 
-use cops_report::report_of;
 use cops_core::{Event, Setting, World};
 use cops_node::Outcome;
+use cops_report::report_of;
 use cops_scenario::{Scenario, ScenarioFault, outcome_line};
 use cops_types::{Memory, Refusal};
 use std::alloc::Global;

@@ -50,7 +50,7 @@ fn perform<R: Files + Threads + Wait + Sync + Print + AllocGlobal>(
         "node" => time_node(rt, rest),
         "world" => time_world(rt, rest),
         "online" => online::say(rt, rest),
-        "growths" => allocations::say(rt, rest),
+        "allocations" => allocations::say(rt, rest),
         _ => Ok(()),
     }
 }

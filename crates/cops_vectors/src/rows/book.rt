@@ -2,7 +2,8 @@
 
 use crate::words::Part::{At, Count, Number, Word};
 use crate::words::{
-    no_node, no_row, node_event, outcome_text, reported_outcome, text, u16_of, u64_of, usize_of,
+    no_more, no_node, no_row, node_event, outcome_text, reported_outcome, split_call, text, u16_of,
+    u64_of, usize_of,
 };
 use anyhow::{Error, bail};
 use cops_node::NodeEvent;
@@ -131,9 +132,7 @@ fn close(alloc: Global, book: &mut Book) -> Result<String, Error> {
 
 /// The answer to a call of one word, which no other word may follow.
 fn ask(alloc: Global, book: &mut Book, what: &str, rest: &[&str]) -> Result<String, Error> {
-    if !rest.is_empty() {
-        return Err(no_row());
-    }
+    no_more(rest)?;
     match what {
         "counts" => entries_text(alloc, book.entries().len()),
         "node" => node(alloc, book),
@@ -144,10 +143,8 @@ fn ask(alloc: Global, book: &mut Book, what: &str, rest: &[&str]) -> Result<Stri
 
 /// The answer to a call.
 pub fn answer(alloc: Global, book: &mut Book, words: &[&str]) -> Result<String, Error> {
-    let [what, rest @ ..] = words else {
-        return Err(no_row());
-    };
-    match *what {
+    let (what, rest) = split_call(words)?;
+    match what {
         "new" => begin(alloc, book, rest),
         "step" => step(alloc, book, rest),
         "entry" => entry(alloc, book, rest),

@@ -1,7 +1,7 @@
 //! Test cases of a node's clock.
 
 use crate::words::Part::{At, Number, Word};
-use crate::words::{no_node, no_row, only_version, text, u16_of};
+use crate::words::{no_more, no_node, no_row, only_version, split_call, text, u16_of};
 use anyhow::Error;
 use cops_types::{Clock, NODES};
 use std::alloc::Global;
@@ -26,22 +26,18 @@ fn begin(alloc: Global, clock: &mut Clock, words: &[&str]) -> Result<String, Err
 
 /// The answer to a call of one word, which no other word may follow.
 fn ask(alloc: Global, clock: &mut Clock, what: &str, rest: &[&str]) -> Result<String, Error> {
-    if !rest.is_empty() {
-        return Err(no_row());
-    }
+    no_more(rest)?;
     match what {
         "next" => text(alloc, &[At(clock.next()?)]),
-        "told" => reported(alloc, clock),
+        "reading" => reported(alloc, clock),
         _ => Err(no_row()),
     }
 }
 
 /// The answer to a call.
 pub fn answer(alloc: Global, clock: &mut Clock, words: &[&str]) -> Result<String, Error> {
-    let [what, rest @ ..] = words else {
-        return Err(no_row());
-    };
-    match *what {
+    let (what, rest) = split_call(words)?;
+    match what {
         "new" => begin(alloc, clock, rest),
         "raise" => {
             clock.raise(only_version(rest)?);

@@ -1,7 +1,10 @@
 //! Test cases of a client's context.
 
 use crate::words::Part::{Count, Word};
-use crate::words::{add_behind, format_of, key, no_row, pair, pair_text, text, u64_of, yes_or_no};
+use crate::words::{
+    add_behind, format_of, key, no_more, no_row, pair, pair_text, split_call, text, u64_of,
+    yes_or_no,
+};
 use anyhow::Error;
 use cops_context::Context;
 use cops_types::{Dep, Version};
@@ -73,9 +76,7 @@ fn fill(alloc: Global, context: &mut Context, words: &[&str]) -> Result<String, 
 
 /// The answer to a call of one word, which no other word may follow.
 fn ask(alloc: Global, context: &mut Context, what: &str, rest: &[&str]) -> Result<String, Error> {
-    if !rest.is_empty() {
-        return Err(no_row());
-    }
+    no_more(rest)?;
     match what {
         "counts" => counts(alloc, context),
         "empty" => yes_or_no(alloc, context.is_empty()),
@@ -90,10 +91,8 @@ fn ask(alloc: Global, context: &mut Context, what: &str, rest: &[&str]) -> Resul
 
 /// The answer to a call.
 pub fn answer(alloc: Global, context: &mut Context, words: &[&str]) -> Result<String, Error> {
-    let [what, rest @ ..] = words else {
-        return Err(no_row());
-    };
-    match *what {
+    let (what, rest) = split_call(words)?;
+    match what {
         "add" => add(alloc, context, rest),
         "fill" => fill(alloc, context, rest),
         "new" => begin(alloc, context, rest),

@@ -1,7 +1,7 @@
 //! Test cases of the puts that wait at a node.
 
 use crate::words::Part::{At, Bytes, Count, Number, Word};
-use crate::words::{mark, no_row, only_version, put, text, word, yes_or_no};
+use crate::words::{mark, no_more, no_row, only_version, put, split_call, text, word, yes_or_no};
 use anyhow::Error;
 use cops_held::{Held, HeldFault, Taken};
 use cops_types::PutRecord;
@@ -78,9 +78,7 @@ fn has(alloc: Global, held: &Held, words: &[&str]) -> Result<String, Error> {
 
 /// The answer to a call of one word, which no other word may follow.
 fn ask(alloc: Global, held: &mut Held, what: &str, rest: &[&str]) -> Result<String, Error> {
-    if !rest.is_empty() {
-        return Err(no_row());
-    }
+    no_more(rest)?;
     match what {
         "new" => drop(std::mem::replace(held, Held::new(alloc))),
         "counts" => {}
@@ -91,10 +89,8 @@ fn ask(alloc: Global, held: &mut Held, what: &str, rest: &[&str]) -> Result<Stri
 
 /// The answer to a call.
 pub fn answer(alloc: Global, held: &mut Held, words: &[&str]) -> Result<String, Error> {
-    let [what, rest @ ..] = words else {
-        return Err(no_row());
-    };
-    match *what {
+    let (what, rest) = split_call(words)?;
+    match what {
         "hold" => hold(alloc, held, rest),
         "open" => open(alloc, held, rest),
         "has" => has(alloc, held, rest),

@@ -2,7 +2,8 @@
 
 use crate::words::Part::{Count, Word};
 use crate::words::{
-    add_behind, no_row, op, op_text, session_text, text, u16_of, u32_of, word, yes_or_no,
+    add_behind, no_more, no_row, op, op_text, session_text, split_call, text, u16_of, u32_of, word,
+    yes_or_no,
 };
 use anyhow::{Error, bail};
 use cops_types::{History, OpName, SessionRef};
@@ -118,9 +119,7 @@ fn above(alloc: Global, history: &History, words: &[&str]) -> Result<String, Err
 
 /// The answer to a call of one word, which no other word may follow.
 fn ask(alloc: Global, history: &History, what: &str, rest: &[&str]) -> Result<String, Error> {
-    if !rest.is_empty() {
-        return Err(no_row());
-    }
+    no_more(rest)?;
     match what {
         "counts" => counts(alloc, history),
         "empty" => yes_or_no(alloc, history.is_empty()),
@@ -130,10 +129,8 @@ fn ask(alloc: Global, history: &History, what: &str, rest: &[&str]) -> Result<St
 
 /// The answer to a call on the current history.
 fn ask_any(alloc: Global, history: &mut History, words: &[&str]) -> Result<String, Error> {
-    let [what, rest @ ..] = words else {
-        return Err(no_row());
-    };
-    match *what {
+    let (what, rest) = split_call(words)?;
+    match what {
         "reserve" => reserve(alloc, history, rest),
         "push" => push(alloc, history, rest),
         "session" => session_text(alloc, history, rest),

@@ -2,8 +2,8 @@
 
 use crate::words::Part::{Number, Word};
 use crate::words::{
-    mark, no_node, no_row, node_event, only_key, pair_text, reported_outcome, text, u16_of,
-    value_at, word,
+    mark, no_more, no_node, no_row, node_event, only_key, pair_text, reported_outcome, split_call,
+    text, u16_of, value_at, word,
 };
 use anyhow::Error;
 use cops_node::{Node, NodeEvent, Outcome};
@@ -61,9 +61,7 @@ fn call(alloc: Global, node: &mut Node, words: &[&str]) -> Result<String, Error>
 
 /// The node's clock, and the counts of its parts.
 fn status(alloc: Global, node: &Node, words: &[&str]) -> Result<String, Error> {
-    if !words.is_empty() {
-        return Err(no_row());
-    }
+    no_more(words)?;
     let status = node.status();
     let parts = [
         Word("clock "),
@@ -98,10 +96,8 @@ fn dep_of(alloc: Global, node: &Node, words: &[&str]) -> Result<String, Error> {
 
 /// The answer to a call.
 pub fn answer(alloc: Global, node: &mut Node, words: &[&str]) -> Result<String, Error> {
-    let [what, rest @ ..] = words else {
-        return Err(no_row());
-    };
-    match *what {
+    let (what, rest) = split_call(words)?;
+    match what {
         "new" => begin(alloc, node, rest),
         "status" => status(alloc, node, rest),
         "shown" => shown(alloc, node, rest),

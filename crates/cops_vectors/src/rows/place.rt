@@ -1,7 +1,7 @@
 //! Test cases of the placement of keys.
 
 use crate::words::Part::{Number, Word};
-use crate::words::{key, keys, no_row, only_key, text, u8_of};
+use crate::words::{key, keys, no_row, only_key, split_call, text, u8_of};
 use anyhow::{Error, bail};
 use cops_place::Place;
 use std::alloc::Global;
@@ -75,10 +75,8 @@ fn begin(
 
 /// The answer to a call on the current place.
 fn ask_any(alloc: Global, place: &Place, words: &[&str]) -> Result<String, Error> {
-    let [what, rest @ ..] = words else {
-        return Err(no_row());
-    };
-    match *what {
+    let (what, rest) = split_call(words)?;
+    match what {
         "primary" => primary(alloc, place, rest),
         "node" => node(alloc, place, rest),
         "copy" => copy_node(alloc, place, rest),

@@ -1,11 +1,11 @@
 //! Test cases of scenario files.
 
 use crate::words::Part::{At, Bytes, Count, Number, Word};
-use crate::words::{line_of, no_row, outcome, text, usize_of, word};
+use crate::words::{line_of, no_more, no_row, outcome, split_call, text, usize_of, word};
 use anyhow::{Error, bail};
 use cops_core::Event;
-use cops_scenario::{Scenario, ScriptOp, outcome_line};
 use cops_node::Outcome;
+use cops_scenario::{Scenario, ScriptOp, outcome_line};
 use cops_types::{Key, Value, Version};
 use std::alloc::Global;
 
@@ -184,9 +184,7 @@ fn line(alloc: Global, number: &str, words: &[&str]) -> Result<String, Error> {
 
 /// The answer to a call of one word, which no other word may follow.
 fn ask(alloc: Global, scenario: &Scenario, what: &str, rest: &[&str]) -> Result<String, Error> {
-    if !rest.is_empty() {
-        return Err(no_row());
-    }
+    no_more(rest)?;
     let number = match what {
         "format" => u64::from(scenario.format().number()),
         "retries" => u64::from(scenario.retries()),
@@ -200,10 +198,8 @@ fn ask(alloc: Global, scenario: &Scenario, what: &str, rest: &[&str]) -> Result<
 
 /// The answer to a call on the current scenario.
 fn ask_any(alloc: Global, scenario: &Scenario, words: &[&str]) -> Result<String, Error> {
-    let [what, rest @ ..] = words else {
-        return Err(no_row());
-    };
-    match *what {
+    let (what, rest) = split_call(words)?;
+    match what {
         "client" => client(alloc, scenario, rest),
         "script" => script(alloc, scenario, rest),
         "event" => event(alloc, scenario, rest),

@@ -1,7 +1,10 @@
 //! Test cases of a node's settled puts.
 
 use crate::words::Part::{Count, Word};
-use crate::words::{key, no_row, only_key, pair, text, value, value_at, version, word, yes_or_no};
+use crate::words::{
+    key, no_more, no_row, only_key, pair, split_call, text, value, value_at, version, word,
+    yes_or_no,
+};
 use anyhow::Error;
 use cops_store::{Settled, Store};
 use cops_types::Dep;
@@ -56,9 +59,7 @@ fn get(alloc: Global, store: &Store, words: &[&str]) -> Result<String, Error> {
 
 /// The answer to a call of one word, which no other word may follow.
 fn ask(alloc: Global, store: &mut Store, what: &str, rest: &[&str]) -> Result<String, Error> {
-    if !rest.is_empty() {
-        return Err(no_row());
-    }
+    no_more(rest)?;
     match what {
         "new" => drop(std::mem::replace(store, Store::new(alloc))),
         "counts" => {}
@@ -69,10 +70,8 @@ fn ask(alloc: Global, store: &mut Store, what: &str, rest: &[&str]) -> Result<St
 
 /// The answer to a call.
 pub fn answer(alloc: Global, store: &mut Store, words: &[&str]) -> Result<String, Error> {
-    let [what, rest @ ..] = words else {
-        return Err(no_row());
-    };
-    match *what {
+    let (what, rest) = split_call(words)?;
+    match what {
         "settle" => settle(alloc, store, rest),
         "has" => has(alloc, store, rest),
         "get" => get(alloc, store, rest),

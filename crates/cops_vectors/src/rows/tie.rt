@@ -3,7 +3,9 @@
 use crate::rows::book::entries_text;
 use crate::rows::trace::add;
 use crate::words::Part::{Count, Word};
-use crate::words::{no_row, node_event, op, outcome, parts, text, u16_of, u64_of, word};
+use crate::words::{
+    no_more, no_row, node_event, op, outcome, parts, split_call, text, u16_of, u64_of, word,
+};
 use anyhow::{Error, bail};
 use cops_core::Setting;
 use cops_scenario::Scenario;
@@ -92,9 +94,7 @@ fn record(alloc: Global, trace: &mut Trace, words: &[&str]) -> Result<String, Er
 
 /// The number of events in the book, if it ties.
 fn tied(alloc: Global, run: &TieRun, words: &[&str]) -> Result<String, Error> {
-    if !words.is_empty() {
-        return Err(no_row());
-    }
+    no_more(words)?;
     let books = slice::from_ref(&run.book);
     if books.len() != run.setting.dcs() as usize * run.setting.nodes() as usize {
         bail!("there is more than one node");
@@ -107,10 +107,8 @@ fn tied(alloc: Global, run: &TieRun, words: &[&str]) -> Result<String, Error> {
 
 /// The answer to a call on the current run.
 fn ask_any(alloc: Global, run: &mut TieRun, words: &[&str]) -> Result<String, Error> {
-    let [what, rest @ ..] = words else {
-        return Err(no_row());
-    };
-    match *what {
+    let (what, rest) = split_call(words)?;
+    match what {
         "entry" => enter(alloc, &mut run.book, rest),
         "record" => record(alloc, &mut run.trace, rest),
         "books" => tied(alloc, run, rest),

@@ -3,7 +3,8 @@
 use crate::rows::history::op_at;
 use crate::words::Part::{Count, Number, Word};
 use crate::words::{
-    bytes, digits, format_of, line_of, no_row, op, text, u16_of, u64_of, usize_of, word, yes_or_no,
+    bytes, digits, format_of, line_of, no_more, no_row, op, split_call, text, u16_of, u64_of,
+    usize_of, word, yes_or_no,
 };
 use anyhow::{Error, bail};
 use cops_trace::{
@@ -94,7 +95,7 @@ fn failing(alloc: Global, words: &[&str]) -> Result<String, Error> {
     };
     let is_trace = match *what {
         "read" => true,
-        "front" => false,
+        "prefix" => false,
         _ => return Err(no_row()),
     };
     let reads = u64_of(reads)?;
@@ -189,9 +190,7 @@ fn push(alloc: Global, trace: &mut Trace, words: &[&str]) -> Result<String, Erro
 
 /// The answer to a call of one word, which no other word may follow.
 fn ask(alloc: Global, trace: &Trace, what: &str, rest: &[&str]) -> Result<String, Error> {
-    if !rest.is_empty() {
-        return Err(no_row());
-    }
+    no_more(rest)?;
     match what {
         "counts" => counts(alloc, trace),
         "format" => text(alloc, &[Number(u64::from(trace.format().number()))]),
@@ -221,13 +220,11 @@ fn ask_any(
 
 /// The answer to a call.
 pub fn answer(alloc: Global, trace: &mut Option<Trace>, words: &[&str]) -> Result<String, Error> {
-    let [what, rest @ ..] = words else {
-        return Err(no_row());
-    };
-    match *what {
+    let (what, rest) = split_call(words)?;
+    match what {
         "new" => begin(alloc, trace, rest),
         "read" => read(alloc, trace, rest),
-        "front" => front(alloc, rest),
+        "prefix" => front(alloc, rest),
         "failing" => failing(alloc, rest),
         what => ask_any(alloc, trace, what, rest),
     }

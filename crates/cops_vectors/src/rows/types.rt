@@ -3,8 +3,8 @@
 use crate::rows::history;
 use crate::words::Part::{At, Count, Number, Word};
 use crate::words::{
-    deps, format_of, key, no_row, op, op_text, pair, pair_text, text, u64_of, usize_of, value,
-    version, version_of, yes_or_no,
+    deps, format_of, key, no_row, op, op_text, pair, pair_text, split_call, text, u64_of, usize_of,
+    value, version, version_of, yes_or_no,
 };
 use anyhow::Error;
 use cops_types::{Format, Key, Value, Version};
@@ -172,10 +172,8 @@ fn limits(alloc: Global, words: &[&str]) -> Result<String, Error> {
 
 /// The answer to a call.
 pub fn answer(alloc: Global, words: &[&str]) -> Result<String, Error> {
-    let [what, rest @ ..] = words else {
-        return Err(no_row());
-    };
-    match *what {
+    let (what, rest) = split_call(words)?;
+    match what {
         "key" => key_of(alloc, rest),
         "value" => value_of(alloc, rest),
         "keys" => keys(alloc, rest),

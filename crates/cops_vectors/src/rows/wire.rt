@@ -2,7 +2,8 @@
 
 use crate::words::Part::{Count, Number, Word};
 use crate::words::{
-    bytes, digits, format_of, lossy, no_row, text, u8_of, u32_of, u64_of, word, yes_or_no,
+    bytes, digits, format_of, lossy, no_more, no_row, split_call, text, u8_of, u32_of, u64_of,
+    word, yes_or_no,
 };
 use anyhow::{Error, bail};
 use cops_types::Format;
@@ -220,26 +221,22 @@ fn set_format(alloc: Global, feeder: &mut Feeder, words: &[&str]) -> Result<Stri
 
 /// Replaces the feeder by a new one.
 fn begin(alloc: Global, feeder: &mut Feeder, words: &[&str]) -> Result<String, Error> {
-    if !words.is_empty() {
-        return Err(no_row());
-    }
+    no_more(words)?;
     drop(std::mem::replace(feeder, Feeder::new(alloc)));
     word(alloc, "opened")
 }
 
 /// The answer to a call.
 pub fn answer(alloc: Global, feeder: &mut Feeder, words: &[&str]) -> Result<String, Error> {
-    let [what, rest @ ..] = words else {
-        return Err(no_row());
-    };
-    match *what {
+    let (what, rest) = split_call(words)?;
+    match what {
         "new" => begin(alloc, feeder, rest),
         "feed" => feed(alloc, feeder, rest),
         "format" => set_format(alloc, feeder, rest),
         "flood" => flood(alloc, feeder, rest),
         "show" => show_frame(alloc, rest),
         "decode" => measures(alloc, rest),
-        "spell" => encoded_message(alloc, rest),
+        "encode" => encoded_message(alloc, rest),
         "legal" => is_legal(alloc, rest),
         "in" => is_in_format(alloc, rest),
         _ => Err(no_row()),

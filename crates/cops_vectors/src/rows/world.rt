@@ -3,8 +3,8 @@
 use crate::rows::place;
 use crate::words::Part::{Count, Word};
 use crate::words::{
-    add_behind, format_of, no_row, outcome_text, parts, reported_outcome, session_text, text,
-    u8_of, u32_of, world_event,
+    add_behind, format_of, no_more, no_row, outcome_text, parts, reported_outcome, session_text,
+    split_call, text, u8_of, u32_of, world_event,
 };
 use anyhow::{Error, bail};
 use cops_core::{Event, World};
@@ -112,18 +112,14 @@ fn run(alloc: Global, world: &mut World, words: &[&str]) -> Result<String, Error
 
 /// How many operations the clients saw.
 fn count(alloc: Global, world: &World, words: &[&str]) -> Result<String, Error> {
-    if !words.is_empty() {
-        return Err(no_row());
-    }
+    no_more(words)?;
     text(alloc, &[Count(world.history().len()), Word(" operations")])
 }
 
 /// The answer to a call on the current world.
 fn ask_any(alloc: Global, world: &mut World, words: &[&str]) -> Result<String, Error> {
-    let [what, rest @ ..] = words else {
-        return Err(no_row());
-    };
-    match *what {
+    let (what, rest) = split_call(words)?;
+    match what {
         "counts" => count(alloc, world, rest),
         "session" => session_text(alloc, world.history(), rest),
         "again" => again(alloc, world, rest),

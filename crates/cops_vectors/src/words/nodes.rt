@@ -2,7 +2,9 @@
 //! `deliver KEY VALUE VERSION DEPS`, which has no value for a deletion, `ask KEY VERSION`, `mark VERSION DEP`,
 //! `settle VERSION`.
 
-use crate::words::reading::{deps, key, mark, no_row, only_version, pair, put, u16_of, value};
+use crate::words::reading::{
+    deps, key, mark, no_row, only_version, pair, put, split_call, u16_of, value,
+};
 use anyhow::Error;
 use cops_node::NodeEvent;
 use cops_types::Dep;
@@ -60,10 +62,8 @@ fn settle_event(words: &[&str]) -> Result<NodeEvent, Error> {
 
 /// The event of a node that words describe.
 pub fn node_event(alloc: Global, words: &[&str]) -> Result<NodeEvent, Error> {
-    let [what, rest @ ..] = words else {
-        return Err(no_row());
-    };
-    match *what {
+    let (what, rest) = split_call(words)?;
+    match what {
         "put" => put_event(alloc, rest),
         "del" => del_event(alloc, rest),
         "get" => get_event(alloc, rest),

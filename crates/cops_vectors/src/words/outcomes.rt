@@ -1,6 +1,6 @@
 //! The words that describe a node's outcome.
 
-use crate::words::reading::{no_row, only_version, u8_of, value, version};
+use crate::words::reading::{no_more, no_row, only_version, split_call, u8_of, value, version};
 use crate::words::texts::Part::{At, Bytes, Number, Word};
 use crate::words::texts::{text, word};
 use anyhow::Error;
@@ -94,9 +94,7 @@ fn refused(words: &[&str]) -> Result<Outcome, Error> {
 
 /// The outcome of one word, which no other word may follow.
 fn plain(word: &str, rest: &[&str]) -> Result<Outcome, Error> {
-    if !rest.is_empty() {
-        return Err(no_row());
-    }
+    no_more(rest)?;
     match word {
         "missed" => Ok(Outcome::Missed),
         "held" => Ok(Outcome::Held),
@@ -111,10 +109,8 @@ fn plain(word: &str, rest: &[&str]) -> Result<Outcome, Error> {
 
 /// The outcome that words describe.
 pub fn outcome(alloc: Global, words: &[&str]) -> Result<Outcome, Error> {
-    let [what, rest @ ..] = words else {
-        return Err(no_row());
-    };
-    match *what {
+    let (what, rest) = split_call(words)?;
+    match what {
         "done" => done(rest),
         "deleted" => deleted(rest),
         "got" => found(alloc, rest),

@@ -9,6 +9,23 @@ pub fn no_row() -> Error {
     anyhow!("not a row")
 }
 
+/// The first word of a call, and the words behind it.
+pub fn split_call<'a>(words: &'a [&'a str]) -> Result<(&'a str, &'a [&'a str]), Error> {
+    match words {
+        [what, rest @ ..] => Ok((*what, rest)),
+        [] => Err(no_row()),
+    }
+}
+
+/// Fails if there is a word.
+pub fn no_more(words: &[&str]) -> Result<(), Error> {
+    if words.is_empty() {
+        Ok(())
+    } else {
+        Err(no_row())
+    }
+}
+
 /// The error for a node's number that is too great.
 pub fn no_node() -> Error {
     anyhow!("there is no such node")
@@ -212,10 +229,8 @@ fn valueless_op(alloc: Global, is_deletion: bool, words: &[&str]) -> Result<Op, 
 /// An operation of a client: `put KEY VALUE VERSION`, `del KEY VERSION`, `got KEY VALUE VERSION`, `gone KEY VERSION` or
 /// `missed KEY`.
 pub fn op(alloc: Global, words: &[&str]) -> Result<Op, Error> {
-    let [what, rest @ ..] = words else {
-        return Err(no_row());
-    };
-    match *what {
+    let (what, rest) = split_call(words)?;
+    match what {
         "put" => valued_op(alloc, true, rest),
         "got" => valued_op(alloc, false, rest),
         "del" => valueless_op(alloc, true, rest),

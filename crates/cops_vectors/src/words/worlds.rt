@@ -1,7 +1,7 @@
 //! The events of a world: `put CLIENT KEY VALUE`, `del CLIENT KEY`, `get CLIENT KEY`, `deliver DATA_CENTRE VERSION`,
 //! `ask DATA_CENTRE KEY VERSION`, `mark DATA_CENTRE VERSION DEP`, `settle DATA_CENTRE VERSION`.
 
-use crate::words::reading::{key, no_row, pair, u8_of, u16_of, value, version};
+use crate::words::reading::{key, no_row, pair, split_call, u8_of, u16_of, value, version};
 use anyhow::Error;
 use cops_core::Event;
 use cops_types::Dep;
@@ -74,10 +74,8 @@ fn settle(words: &[&str]) -> Result<Event, Error> {
 
 /// The event of a world that words describe.
 pub fn world_event(alloc: Global, words: &[&str]) -> Result<Event, Error> {
-    let [what, rest @ ..] = words else {
-        return Err(no_row());
-    };
-    match *what {
+    let (what, rest) = split_call(words)?;
+    match what {
         "put" => put(alloc, rest),
         "del" => del(alloc, rest),
         "get" => get(alloc, rest),

@@ -2,14 +2,14 @@ use Rattle.std.proofs.Common.{ℕ, List, All, subst, sym, ◌∙◌}
 use Rattle.cops_scenario.specs.declared.script.ScriptedClient.{ScriptedClient}
 use Rattle.cops_replication.specs.Wiring.{AreReceivers as AreWired}
 use Rattle.cops_clients.specs.Opening.{HasItsScript}
-use Rattle.cops_clients.proofs.Seats.{jobs_of, receivers_of}
+use Rattle.cops_clients.proofs.Seats.{tasks_of, receivers_of}
 use Rattle.cops_clients.proofs.opening.opened.Goals as goal
 
-pub returns-clause-jobs : goal.returns-clause-jobs
-returns-clause-jobs c = jobs_of c.args.setting.now c.in_ok-cluster.field-0.clients.items c.in-Ok.jobs.items c.dcs.ensures.setting c.in_ok-cluster.ensures.clients c.in-Ok.ensures.clients
+pub returns-clause-tasks : goal.returns-clause-tasks
+returns-clause-tasks c = tasks_of c.args.setting.now c.in_ok-cluster.field-0.clients.items c.in-Ok.tasks.items c.dcs.ensures.setting c.in_ok-cluster.ensures.clients c.in-Ok.ensures.clients
 
 pub returns-clause-scripts : goal.returns-clause-scripts
-returns-clause-scripts c = subst (λ (l : List ScriptedClient). All (HasItsScript l) c.in-Ok.jobs.items) c.clients.ensures.clients c.in-Ok.ensures.scripts
+returns-clause-scripts c = subst (λ (l : List ScriptedClient). All (HasItsScript l) c.in-Ok.tasks.items) c.clients.ensures.clients c.in-Ok.ensures.scripts
 
 pub returns-clause-receivers : goal.returns-clause-receivers
 returns-clause-receivers c =

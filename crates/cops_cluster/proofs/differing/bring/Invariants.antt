@@ -5,5 +5,5 @@ use Rattle.cops_cluster.proofs.differing.bring.Given as goal
 abbrev pub invariant-loop-j : goal.invariant-loop-j
 invariant-loop-j l = record {
   same : l.heard ≡ l.fn.heard;
-  passed : (k : ℕ) → l.i ≤ k → k < l.j → shown (slice_index_or l.heard k l.noted) ≡ shown l.noted → ⊥;
+  passed : (k : ℕ) → l.i ≤ k → k < l.j → shown (slice_index_or l.heard k l.logged) ≡ shown l.logged → ⊥;
 }

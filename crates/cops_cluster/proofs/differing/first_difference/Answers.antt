@@ -1,22 +1,22 @@
 use Rattle.std.proofs.Common.{◌≡◌, ◌<◌, ◌≤◌, ◌∙◌, ℕ, List, ap, arith, get_or, length, length-drop, map, subst, take}
 use Rattle.std.proofs.lemmas.List.{get_or_default, length-map}
 use Rattle.std.proofs.lemmas.List.Sorted.{IsPermutation-trans}
-use Rattle.cops_cluster.specs.declared.noted.Noted.{Noted}
+use Rattle.cops_cluster.specs.declared.logged.LoggedEntry.{LoggedEntry}
 use Rattle.cops_cluster.specs.Differing.{shown, ticket_of}
 use Rattle.cops_cluster.proofs.Joins.{least_heard, least_kept, same_all, same_more}
 use Rattle.cops_cluster.proofs.differing.first_difference.Goals as goal
 
-same_at : (i j : ℕ) (news kept : List Noted) → i ≡ j → take i (map shown news) ≡ take i (map shown kept) → take j (map shown news) ≡ take j (map shown kept)
+same_at : (i j : ℕ) (news kept : List LoggedEntry) → i ≡ j → take i (map shown news) ≡ take i (map shown kept) → take j (map shown news) ≡ take j (map shown kept)
 same_at i j news kept e = subst (λ k. take k (map shown news) ≡ take k (map shown kept)) e
 
-pub returns-then-ticket-noted : goal.returns-then-ticket-noted
-returns-then-ticket-noted c =
+pub returns-then-ticket-logged : goal.returns-then-ticket-logged
+returns-then-ticket-logged c =
     let n = get_or c.loop-i.heard c.loop-i.i c.index-heard-i.result in
     let k = c.index-kept-i.result in
     let len = c.loop-i.invariant.len in
     let there : n ≡ get_or c.loop-i.heard c.loop-i.i n = get_or_default c.loop-i.heard c.loop-i.i c.index-heard-i.result n (omega (arith, len)) in
     let above : c.loop-i.i < length c.args.kept.now → ticket_of n < ticket_of (get_or c.args.kept.now c.loop-i.i n) = λ inside.
-    omega (arith, c.if-ticket-noted.true, n.same, k.same, ap ticket_of (c.index-kept-i.is ∙ get_or_default c.args.kept.now c.loop-i.i k n inside)) in
+    omega (arith, c.if-ticket-logged.true, n.same, k.same, ap ticket_of (c.index-kept-i.is ∙ get_or_default c.args.kept.now c.loop-i.i k n inside)) in
     least_heard c.args.kept.now c.args.heard.now c.loop-i.heard c.loop-i.i n.ticket n c.requires.kept c.loop-i.invariant.sorted c.loop-i.invariant.order c.loop-i.invariant.same n.same
     (omega (arith, len)) there above
 
@@ -25,7 +25,7 @@ returns-then-not-bring c =
     let n = c.index-kept-i.result in
     let r = c.index-heard-i.result in
     let least : c.loop-i.i < length c.loop-i.heard → ticket_of n ≤ ticket_of (get_or c.loop-i.heard c.loop-i.i n) = λ inside.
-    omega (arith, c.if-ticket-noted.false, n.same, (get_or c.loop-i.heard c.loop-i.i r).same, ap ticket_of (get_or_default c.loop-i.heard c.loop-i.i r n inside)) in
+    omega (arith, c.if-ticket-logged.false, n.same, (get_or c.loop-i.heard c.loop-i.i r).same, ap ticket_of (get_or_default c.loop-i.heard c.loop-i.i r n inside)) in
     least_kept c.args.kept.now c.args.heard.now c.loop-i.heard c.loop-i.i n.ticket n c.requires.kept c.loop-i.invariant.sorted c.loop-i.invariant.order c.loop-i.invariant.same n.same
     (omega arith) c.index-kept-i.is least (c.bring.ensures.missing (search c.if-not-bring.true))
 

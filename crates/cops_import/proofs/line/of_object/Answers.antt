@@ -1,7 +1,7 @@
 use Rattle.std.proofs.Common.{◌≡◌, Err, ap}
 use Rattle.serde_json.specs.View.{view}
 use Rattle.cops_import.specs.declared.fault.JsonLineFault.TheVariants.{NoClient}
-use Rattle.cops_import.specs.declared.line.Untold.TheVariants.{Fault}
+use Rattle.cops_import.specs.declared.line.NotGiven.TheVariants.{Fault}
 use Rattle.cops_import.specs.Line.{IsWrong}
 use Rattle.cops_import.proofs.Asked.{wrong_unread}
 use Rattle.cops_import.proofs.line.of_object.Goals as goal

@@ -4,7 +4,7 @@ use Rattle.cops_types.specs.Histories.{SourceStep}
 use Rattle.cops_types.specs.declared.versioned_put.VersionedPut.{VersionedPut}
 use Rattle.cops_report.specs.Marks.{IsMarked}
 use Rattle.cops_report.proofs.GainLemmas.{gains_more, gains_none}
-use Rattle.cops_report.proofs.PutLemmas.{bearers_all, bearers_more, source_named}
+use Rattle.cops_report.proofs.PutLemmas.{holders_all, holders_more, source_named}
 use Rattle.cops_report.proofs.search.mark_holders.Goals as goal
 use Rattle.cops_report.proofs.search.mark_holders.Goals.{then-is_source+in_ok-mark_new, else-is_source}
 
@@ -29,14 +29,14 @@ loop-put-preserved c =
           rw (w.marks-is, w.names-is)
           (record {
             gains = gains_more h c.args.mark c.args.marks.now c.loop-put.marks _ c.args.names.now.items names _ c.loop-put.invariant.gains g;
-            all = bearers_more h c.args.mark c.loop-put.marks w.mark_new.new.marks names _ puts i p c.loop-put-test.true c.loop-put.invariant.all g
+            all = holders_more h c.args.mark c.loop-put.marks w.mark_new.new.marks names _ puts i p c.loop-put-test.true c.loop-put.invariant.all g
                 (λ _. subst (λ (q : VersionedPut). IsMarked w.mark_new.new.marks q.name) c.put-item.is w.in_ok-mark_new.ensures.marked);
           })
       | else-is_source w ↦
           rw (w.marks-is, w.names-is)
           (record {
             gains = c.loop-put.invariant.gains;
-            all = bearers_more h c.args.mark c.loop-put.marks c.loop-put.marks names names puts i p c.loop-put-test.true c.loop-put.invariant.all (gains_none h c.args.mark c.loop-put.marks names)
+            all = holders_more h c.args.mark c.loop-put.marks c.loop-put.marks names names puts i p c.loop-put-test.true c.loop-put.invariant.all (gains_none h c.args.mark c.loop-put.marks names)
                 (λ s. absurd (false_not_true (w.if-is_source.ensures.source.1 (subst (λ (q : VersionedPut). SourceStep h q.name c.args.mark.next) (sym c.put-item.is) s))));
           })
     ]
@@ -48,7 +48,7 @@ returns-then-as_u64-clause-all c =
     let p = c.put-item.result in
     let v = c.args.version in
     let other : p.version ≢ v = λ e. c.if-as_u64.true (c.as_u64.ensures.number ∙ e ∙ sym c.as_u64-in-loop-put.ensures.number) in
-    λ n s. bearers_all c.args.history.now.sessions c.loop-put.marks c.args.mark puts i v c.loop-put.invariant.all
+    λ n s. holders_all c.args.history.now.sessions c.loop-put.marks c.args.mark puts i v c.loop-put.invariant.all
     (λ k d at lt e.
     let same : p.version ≡ (get_or puts i d).version = ap (λ (q : VersionedPut). q.version) (c.put-item.is ∙ get_or_default puts i p d c.loop-put-test.true) in
     let low : v ≤ (get_or puts i d).version = c.requires.low i d c.loop-put-test.true in
@@ -58,5 +58,5 @@ returns-then-as_u64-clause-all c =
 
 pub returns-clause-all : goal.returns-clause-all
 returns-clause-all c =
-    λ n s. bearers_all c.args.history.now.sessions c.loop-put.marks c.args.mark c.args.puts.now c.loop-put.put-index c.args.version c.loop-put.invariant.all
+    λ n s. holders_all c.args.history.now.sessions c.loop-put.marks c.args.mark c.args.puts.now c.loop-put.put-index c.args.version c.loop-put.invariant.all
     (λ k d at lt e. let short : length c.args.puts.now ≤ c.loop-put.put-index = c.loop-put-test.false in absurd (omega arith)) n (c.requires.all n s) s

@@ -7,7 +7,7 @@ pub mark_holders-requires-clause-all : goal.mark_holders-requires-clause-all
 mark_holders-requires-clause-all c = λ n s.
     let puts = c.args.puts.now in
     let same = got_once c.args.history.now.sessions n c.args.mark.next c.in-Some.version s c.in-Some.ensures.got in
-    c.from_version-bearers.ensures.all n (subst (λ (v : ℕ). HasPut puts n v) same (c.requires.puts.all n s.version (s.key, s.content, s.put)))
+    c.from_version-holders.ensures.all n (subst (λ (v : ℕ). HasPut puts n v) same (c.requires.puts.all n s.version (s.key, s.content, s.put)))
 
 pub returns-in-None-clause-all : goal.returns-in-None-clause-all
 returns-in-None-clause-all c = λ n s. absurd (c.in-None.ensures.none s.version (s.key, s.content, s.got))

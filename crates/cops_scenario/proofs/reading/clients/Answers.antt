@@ -3,7 +3,7 @@ use Rattle.std.proofs.lemmas.Grind.{common_steps}
 use Rattle.serde_json.specs.Data.{Data}
 use Rattle.serde_json.specs.View.{view}
 use Rattle.cops_scenario.specs.declared.script.ScriptedClient.{ScriptedClient}
-use Rattle.cops_scenario.specs.File.{ReportsClient, ReportClients}
+use Rattle.cops_scenario.specs.File.{GivesClient, GiveClients}
 use Rattle.cops_scenario.specs.Limits.{IsLegalClient}
 use Rattle.cops_scenario.proofs.Clients.{report_next}
 use Rattle.cops_scenario.proofs.Forms.{as_many, no_such_client, same_list}
@@ -22,7 +22,7 @@ returns-in_err-item-items-clause-none c = λ err ds cs listed reported few each.
 pub returns-in_err-client-clause-none : goal.returns-in_err-client-clause-none
 returns-in_err-client-clause-none c = λ err ds cs listed reported few each.
     let items = c.in_ok-item-items.item-items.now in
-    let none : (x : ScriptedClient) → IsLegalClient c.args.format c.args.dcs x → ReportsClient (view c.item-item.result) x → ⊥ = search rules in
+    let none : (x : ScriptedClient) → IsLegalClient c.args.format c.args.dcs x → GivesClient (view c.item-item.result) x → ⊥ = search rules in
     let same = same_list ds (map view items) (sym listed ∙ c.in_ok-item-items.ensures.json) in
     no_such_client (IsLegalClient c.args.format c.args.dcs) items c.loop-item.item-index c.item-item.result cs c.loop-item-test.true c.item-item.is none
-    (subst (λ (l : List Data). ReportClients l cs) same reported) each
+    (subst (λ (l : List Data). GiveClients l cs) same reported) each

@@ -3,7 +3,7 @@ use Rattle.std.specs.Prelude.{Option, IfSome, option_map}
 use Rattle.serde_json.specs.Data.{Data}
 use Rattle.serde_json.specs.View.{view}
 use Rattle.cops_core.specs.declared.event.Event.{Event}
-use Rattle.cops_scenario.specs.File.{AreRightBefore, AreUnscripted, IsRight, ReportClients, list_json}
+use Rattle.cops_scenario.specs.File.{AreRightBefore, AreUnscripted, IsRight, GiveClients, list_json}
 use Rattle.cops_scenario.specs.declared.fault.Field.TheVariants.{Root, Format as FormatField, DataCentres, Splits, Link, Turns, Retries, Repeat, Hold, Clients, Events}
 use Rattle.cops_scenario.proofs.Order.{before_clients, before_events}
 use Rattle.cops_scenario.proofs.Scripts.{are_events}
@@ -27,7 +27,7 @@ returns-in_err-clients-clause-first c = λ field e.
 pub returns-in_err-events-clause-first : goal.returns-in_err-events-clause-first
 returns-in_err-events-clause-first c = λ field e.
     let root = view c.args.root.now in
-    let reported : (ds : List Data) × (view c.in-Some.listed.now ≡ list_json ds) × ReportClients ds c.in_ok-clients.clients.items = search rules in
+    let reported : (ds : List Data) × (view c.in-Some.listed.now ≡ list_json ds) × GiveClients ds c.in_ok-clients.clients.items = search rules in
     let right : IsRight root Clients = (reported.0, c.in_ok-clients.clients.items, search rules, reported.2, search rules, search rules) in
     let whole : IsRight root Root = search rules in
     let format : IsRight root FormatField = search rules in
@@ -44,7 +44,7 @@ returns-in_err-events-clause-first c = λ field e.
 
 pub new-requires-clause-events : goal.new-requires-clause-events
 new-requires-clause-events c =
-    let reported : (ds : List Data) × (view c.in-Some.listed.now ≡ list_json ds) × ReportClients ds c.in_ok-clients.clients.items = search rules in
+    let reported : (ds : List Data) × (view c.in-Some.listed.now ≡ list_json ds) × GiveClients ds c.in_ok-clients.clients.items = search rules in
     let events : Option (List Event) = option_map (λ e. e.items) c.in_ok-events.events in
     let few : IfSome (option_map (λ e. e.items) c.in_ok-events.events) (λ es. length es ≤ 100000) = search rules in
     let beside : (ds : List Data) → view c.in-Some.listed.now ≡ list_json ds → AreUnscripted ds (option_map (λ e. e.items) c.in_ok-events.events) = search rules in
@@ -52,7 +52,7 @@ new-requires-clause-events c =
 
 pub returns-clause-reported : goal.returns-clause-reported
 returns-clause-reported c =
-    let reported : (ds : List Data) × (view c.in-Some.listed.now ≡ list_json ds) × ReportClients ds c.in_ok-clients.clients.items = search rules in
+    let reported : (ds : List Data) × (view c.in-Some.listed.now ≡ list_json ds) × GiveClients ds c.in_ok-clients.clients.items = search rules in
     let beside : (ds : List Data) → view c.in-Some.listed.now ≡ list_json ds → AreUnscripted ds (option_map (λ e. e.items) c.in_ok-events.events) = search rules in
     rw c.new.ensures.parts (record {
       numbers = search rules;

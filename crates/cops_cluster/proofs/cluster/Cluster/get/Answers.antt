@@ -1,7 +1,7 @@
 use Rattle.std.proofs.Common.{refl}
 use Rattle.cops_node.specs.declared.event.NodeEvent.TheVariants.{Get}
 use Rattle.cops_cluster.specs.Cluster.{node_of, after_get}
-use Rattle.cops_cluster.proofs.Reports.{answer_kept, reported_adds, most_adds, reported_context}
+use Rattle.cops_cluster.proofs.Reports.{reply_kept, reported_adds, most_adds, reported_context}
 use Rattle.cops_cluster.proofs.cluster.Cluster.get.Goals as goal
 
 pub returns-clause-reported : goal.returns-clause-reported
@@ -12,7 +12,7 @@ returns-clause-reported g c =
     let n = node_of c.args.self.now c.args.client.now.dc c.args.key in
     let e = Get c.args.client.now.number c.args.key in
     reported_adds b a n e c.spent-reply.result c.passed.result
-    (answer_kept b a n e (g.G.Gate.may_hold c.args.gate.now) n c.args.client.now.number n s.result c.spent-reply.result s.ensures.reported s.ensures.answers s.ensures.none s.ensures.stop c.spent-reply.ensures)
+    (reply_kept b a n e (g.G.Gate.may_hold c.args.gate.now) n c.args.client.now.number s.result c.spent-reply.result s.ensures.reported s.ensures.own s.ensures.none s.ensures.stop c.spent-reply.ensures)
     c.passed.ensures.reported
 
 pub returns-clause-most : goal.returns-clause-most
@@ -23,7 +23,7 @@ returns-clause-most g c =
     let n = node_of c.args.self.now c.args.client.now.dc c.args.key in
     let e = Get c.args.client.now.number c.args.key in
     most_adds b a n e c.spent-reply.result
-    (answer_kept b a n e (g.G.Gate.may_hold c.args.gate.now) n c.args.client.now.number n s.result c.spent-reply.result s.ensures.reported s.ensures.answers s.ensures.none s.ensures.stop c.spent-reply.ensures)
+    (reply_kept b a n e (g.G.Gate.may_hold c.args.gate.now) n c.args.client.now.number s.result c.spent-reply.result s.ensures.reported s.ensures.own s.ensures.none s.ensures.stop c.spent-reply.ensures)
 
 pub returns-clause-context : goal.returns-clause-context
 returns-clause-context g c =

@@ -15,4 +15,4 @@ returns-in-Ok-step-clause-reported g c =
     adds_same _ _ _ _ _ _ _ _ _ (ap (λ (s : Share). s.entries.items) same.2) (sym (ap (λ (s : Share). s.entries.items) c.saw-op.ensures.same.2)) is event c.in-Ok-step.ensures.reported
 
 pub returns-in-Ok-step-clause-outcome : goal.returns-in-Ok-step-clause-outcome
-returns-in-Ok-step-clause-outcome g c = answer_got _ c.args.key c.in_ok-event.field-0.event c.in-Ok-step.field-0.outcome c.in_ok-event.ensures.event c.in-Ok-step.ensures.outcome
+returns-in-Ok-step-clause-outcome g c = answer_got _ c.args.key c.in_ok-event.field-0.event _ c.in_ok-event.ensures.event c.in-Ok-step.ensures.outcome

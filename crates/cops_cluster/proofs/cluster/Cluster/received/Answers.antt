@@ -1,5 +1,5 @@
 use Rattle.cops_types.specs.NodeNumber.{node_number}
-use Rattle.cops_cluster.proofs.Reports.{seen_kept, reported_adds, most_adds, reported_answers}
+use Rattle.cops_cluster.proofs.Reports.{reply_kept, reported_adds, most_adds, reported_answers}
 use Rattle.cops_cluster.proofs.cluster.Cluster.received.Goals as goal
 
 pub returns-clause-reported : goal.returns-clause-reported
@@ -8,8 +8,8 @@ returns-clause-reported g c =
     let b = c.args.share.now.entries.items in
     let a = s.new.share.entries.items in
     let n = node_number c.args.spot.dc c.args.spot.place in
-    reported_adds b a n c.args.event c.replied.result c.passed.result
-    (seen_kept b a n c.args.event (g.G.Gate.may_hold c.args.gate.now) n 65535 c.number.result s.result c.replied.result s.ensures.reported s.ensures.answers s.ensures.none s.ensures.stop c.replied.ensures)
+    reported_adds b a n c.args.event c.reply_in.result c.passed.result
+    (reply_kept b a n c.args.event (g.G.Gate.may_hold c.args.gate.now) n 65535 s.result c.reply_in.result s.ensures.reported s.ensures.own s.ensures.none s.ensures.stop c.reply_in.ensures)
     c.passed.ensures.reported
 
 pub returns-clause-most : goal.returns-clause-most
@@ -18,10 +18,10 @@ returns-clause-most g c =
     let b = c.args.share.now.entries.items in
     let a = s.new.share.entries.items in
     let n = node_number c.args.spot.dc c.args.spot.place in
-    most_adds b a n c.args.event c.replied.result
-    (seen_kept b a n c.args.event (g.G.Gate.may_hold c.args.gate.now) n 65535 c.number.result s.result c.replied.result s.ensures.reported s.ensures.answers s.ensures.none s.ensures.stop c.replied.ensures)
+    most_adds b a n c.args.event c.reply_in.result
+    (reply_kept b a n c.args.event (g.G.Gate.may_hold c.args.gate.now) n 65535 s.result c.reply_in.result s.ensures.reported s.ensures.own s.ensures.none s.ensures.stop c.reply_in.ensures)
 
 pub returns-clause-outcome : goal.returns-clause-outcome
 returns-clause-outcome g c =
     let s = c.step-answered in
-    reported_answers c.args.event c.number.result s.result c.replied.result c.passed.result s.ensures.outcome s.ensures.stops c.replied.ensures c.passed.ensures.reported
+    reported_answers c.args.event s.result c.reply_in.result c.passed.result s.ensures.outcome s.ensures.stops c.reply_in.ensures c.passed.ensures.reported

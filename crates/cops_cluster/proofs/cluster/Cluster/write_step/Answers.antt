@@ -12,4 +12,4 @@ returns-in-Ok-clause-reported g c =
 
 pub returns-in-Ok-clause-outcome : goal.returns-in-Ok-clause-outcome
 returns-in-Ok-clause-outcome g c =
-    answer_written _ c.args.key c.args.content _ c.in_ok-event.field-0.event c.in-Ok.field-0.outcome c.in_ok-event.ensures.event c.in-Ok.ensures.outcome
+    answer_written _ c.args.key c.args.content _ c.in_ok-event.field-0.event _ c.in_ok-event.ensures.event c.in-Ok.ensures.outcome

@@ -9,9 +9,9 @@ returns-in_default-clause-err g c = λ from fed u.
 
 pub returns-in-Ok-clause-ok : goal.returns-in-Ok-clause-ok
 returns-in-Ok-clause-ok g c = λ from fed u.
-    let took = c.in-Ok.ensures.ok from u.tolds u.taken in
+    let took = c.in-Ok.ensures.ok from u.given u.taken in
     line_ended g.W.Write.contents from fed c.args.self.now _ took.0 u took.1 (record { names = took.2.names; operations = took.2.operations; wrote = took.2.wrote }) c.clear.ensures.items (search rules)
 
 pub returns-in-Err-clause-err : goal.returns-in-Err-clause-err
 returns-in-Err-clause-err g c = λ from fed u.
-    stopped_here g.W.Write.contents from fed c.args.self.now c.in-Some.number c.in-Err.fault _ u (search rules) (c.in-Err.ensures.stop from u.tolds u.taken) (c.in-Err.ensures.err from u.tolds u.taken)
+    stopped_here g.W.Write.contents from fed c.args.self.now c.in-Some.number c.in-Err.fault _ u (search rules) (c.in-Err.ensures.stop from u.given u.taken) (c.in-Err.ensures.err from u.given u.taken)

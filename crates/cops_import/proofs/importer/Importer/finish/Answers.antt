@@ -11,14 +11,14 @@ returns-in_default-clause-err g c = λ from fed u. rw c.give_up.ensures (record 
 pub returns-in-Ok-clause-ok : goal.returns-in-Ok-clause-ok
 returns-in-Ok-clause-ok g c = if_ok c.end.result _ _
     (λ done h from fed u.
-    let last = last_taken g.W.Write.contents from fed c.args.self c.take_line.new.self u (c.in-Ok.ensures.ok from u.tolds u.taken) in
+    let last = last_taken g.W.Write.contents from fed c.args.self c.take_line.new.self u (c.in-Ok.ensures.ok from u.given u.taken) in
     (last.0, last.1, h from last.0 last.2))
     c.end.ensures.ok
 
 pub returns-in-Ok-clause-fault : goal.returns-in-Ok-clause-fault
 returns-in-Ok-clause-fault g c = if_err c.end.result _ _
     (λ e h from fed u.
-    let last = last_taken g.W.Write.contents from fed c.args.self c.take_line.new.self u (c.in-Ok.ensures.ok from u.tolds u.taken) in
+    let last = last_taken g.W.Write.contents from fed c.args.self c.take_line.new.self u (c.in-Ok.ensures.ok from u.given u.taken) in
     stops_ended c.args.self.clients fed last.0 e.fault last.1 (subst (λ (k : ℕ). IsStopAtEnd k last.0 e.fault) c.in-Ok.ensures.clients (h from last.0 last.2)))
     c.end.ensures.stop
 
@@ -26,8 +26,8 @@ pub returns-in-Err-clause-fault : goal.returns-in-Err-clause-fault
 returns-in-Err-clause-fault g c = λ from fed u.
     let next : c.in-Some.number ≡ c.args.self.ended + 1 = search rules in
     rw c.give_up-in-Err.ensures
-    (stops_last c.args.self.clients fed u.ended c.args.self.line.items u.tolds c.in-Some.number c.in-Err.fault u.split u.within u.report (next ∙ ap (λ (n : ℕ). n + 1) u.counted)
-    (c.in-Err.ensures.stop from u.tolds u.taken))
+    (stops_last c.args.self.clients fed u.ended c.args.self.line.items u.given c.in-Some.number c.in-Err.fault u.split u.within u.report (next ∙ ap (λ (n : ℕ). n + 1) u.counted)
+    (c.in-Err.ensures.stop from u.given u.taken))
 
 pub returns-in_default-clause-fault : goal.returns-in_default-clause-fault
 returns-in_default-clause-fault g c = λ from fed u.

@@ -11,38 +11,38 @@ use Rattle.cops_import.proofs.Records.{cut_so_far, left_refused, taken_more, too
 use Rattle.cops_import.proofs.importer.Importer.take.Goals as goal
 
 pub returns-in_default-clause-err : goal.returns-in_default-clause-err
-returns-in_default-clause-err g c = λ from tolds h. record { cut = cut_so_far g.W.Write.contents from _ _ h.wrote; heard = tt }
+returns-in_default-clause-err g c = λ from given h. record { cut = cut_so_far g.W.Write.contents from _ _ h.wrote; heard = tt }
 
 pub returns-then-len-from-clause-err : goal.returns-then-len-from-clause-err
-returns-then-len-from-clause-err g c = λ from tolds h. record { cut = cut_so_far g.W.Write.contents from _ _ h.wrote; heard = h.wrote.heard }
+returns-then-len-from-clause-err g c = λ from given h. record { cut = cut_so_far g.W.Write.contents from _ _ h.wrote; heard = h.wrote.heard }
 
 pub returns-then-len-from-2-clause-err : goal.returns-then-len-from-2-clause-err
-returns-then-len-from-2-clause-err g c = λ from tolds h. record { cut = cut_so_far g.W.Write.contents from _ _ h.wrote; heard = h.wrote.heard }
+returns-then-len-from-2-clause-err g c = λ from given h. record { cut = cut_so_far g.W.Write.contents from _ _ h.wrote; heard = h.wrote.heard }
 
 pub returns-then-not-has_turn-clause-err : goal.returns-then-not-has_turn-clause-err
-returns-then-not-has_turn-clause-err g c = λ from tolds h. record { cut = cut_so_far g.W.Write.contents from _ _ h.wrote; heard = h.wrote.heard }
+returns-then-not-has_turn-clause-err g c = λ from given h. record { cut = cut_so_far g.W.Write.contents from _ _ h.wrote; heard = h.wrote.heard }
 
 pub returns-then-not-has_turn-clause-stop : goal.returns-then-not-has_turn-clause-stop
-returns-then-not-has_turn-clause-stop g c = λ from tolds h.
+returns-then-not-has_turn-clause-stop g c = λ from given h.
     let reported : LineOp = record { name = c.args.name; op = c.args.op.now } in
-    let number : c.in-Ok.client ≡ number_of (names_of tolds) c.args.name = c.in-Ok.ensures.number ∙ ap (λ (ns : List (List ℕ)). number_of ns c.args.name) h.names in
+    let number : c.in-Ok.client ≡ number_of (names_of given) c.args.name = c.in-Ok.ensures.number ∙ ap (λ (ns : List (List ℕ)). number_of ns c.args.name) h.names in
     let there : c.in-Ok.client < c.args.self.now.clients = search rules in
     let full : HasTurn c.args.self.now.writer.counts c.in-Ok.client → ⊥ = λ turn. let yes = c.has_turn.ensures.1 turn in let no = c.if-not-has_turn.true in search rules in
-    let names : c.number.new.self ≡ names_of (tolds ++ reported ∷ []) =
-    c.in-Ok.ensures.names ∙ ap (λ (ns : List (List ℕ)). with_name ns c.args.name) h.names ∙ sym (names_more tolds reported) in
+    let names : c.number.new.self ≡ names_of (given ++ reported ∷ []) =
+    c.in-Ok.ensures.names ∙ ap (λ (ns : List (List ℕ)). with_name ns c.args.name) h.names ∙ sym (names_more given reported) in
     let few : length c.number.new.self ≤ 65535 = search rules in
-    (refl, too_many c.args.self.now.clients tolds reported c.args.self.now.writer.counts c.in-Ok.client h.wrote.counts number there full (omega (arith, ap length names, few)))
+    (refl, too_many c.args.self.now.clients given reported c.args.self.now.writer.counts c.in-Ok.client h.wrote.counts number there full (omega (arith, ap length names, few)))
 
 pub returns-in-Ok-op-clause-ok : goal.returns-in-Ok-op-clause-ok
-returns-in-Ok-op-clause-ok g c = λ from tolds h.
+returns-in-Ok-op-clause-ok g c = λ from given h.
     let reported : LineOp = record { name = c.args.name; op = c.args.op.now } in
     let turn : HasTurn c.args.self.now.writer.counts c.in-Ok.client = search rules in
-    let wrote = written_more g.W.Write.contents from (trace_to c.args.self.now.clients tolds) c.args.self.now.writer c.op.new.self c.in-Ok.client (operation_of c.args.op.now) h.wrote turn c.requires
+    let wrote = written_more g.W.Write.contents from (trace_to c.args.self.now.clients given) c.args.self.now.writer c.op.new.self c.in-Ok.client (operation_of c.args.op.now) h.wrote turn c.requires
     c.in-Ok-op.ensures.ok c.in-Ok-op.ensures.counts c.in-Ok-op.ensures.written c.in-Ok-op.ensures.heard in
-    taken_more g.W.Write.contents from tolds reported c.args.self.now _ c.in-Ok.client h refl c.in-Ok.ensures.names c.saturating_add-self.ensures c.in-Ok.ensures.number turn wrote
+    taken_more g.W.Write.contents from given reported c.args.self.now _ c.in-Ok.client h refl c.in-Ok.ensures.names c.saturating_add-self.ensures c.in-Ok.ensures.number turn wrote
 
 pub returns-in-Err-clause-err : goal.returns-in-Err-clause-err
-returns-in-Err-clause-err g c = λ from tolds h.
+returns-in-Err-clause-err g c = λ from given h.
     let turn : HasTurn c.args.self.now.writer.counts c.in-Ok.client = search rules in
-    rw c.from-in-Err.ensures (left_refused g.W.Write.contents from (trace_to c.args.self.now.clients tolds) c.args.self.now.writer c.op.new.self c.in-Ok.client (operation_of c.args.op.now) c.in-Err.fault h.wrote turn c.requires
+    rw c.from-in-Err.ensures (left_refused g.W.Write.contents from (trace_to c.args.self.now.clients given) c.args.self.now.writer c.op.new.self c.in-Ok.client (operation_of c.args.op.now) c.in-Err.fault h.wrote turn c.requires
     c.in-Err.ensures.err c.in-Err.ensures.failed)

@@ -8,7 +8,7 @@ import sys
 ROOT = os.path.dirname(os.path.dirname(os.path.abspath(__file__)))
 
 
-def kit():
+def toolchain():
     """The module of the command `rt`, whose `rtlib` knows crates and how to build them. Exits if there is no such command."""
     command = shutil.which("rt")
     if not command:

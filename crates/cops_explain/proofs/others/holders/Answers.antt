@@ -1,7 +1,7 @@
 use Rattle.std.proofs.Common.{◌∙◌, false, true, refl, sym, arith, ◌≡◌}
 use Rattle.cops_explain.proofs.OtherLemmas.{all_found, found_more, found_passed, further}
-use Rattle.cops_explain.proofs.others.bearers.Goals as goal
-use Rattle.cops_explain.proofs.others.bearers.Goals.{then-is_other+in_ok-push, else-is_other}
+use Rattle.cops_explain.proofs.others.holders.Goals as goal
+use Rattle.cops_explain.proofs.others.holders.Goals.{then-is_other+in_ok-push, else-is_other}
 
 false_not_true : false ≡ true → ⊥
 false_not_true e = cc

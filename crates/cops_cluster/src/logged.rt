@@ -5,14 +5,14 @@ use cops_node::Entry;
 
 /// A log entry with its node's number, and its ticket, so that sorting need not look into the entry.
 #[derive(Clone, Copy)]
-pub struct Noted<'a> {
+pub struct LoggedEntry<'a> {
     pub ticket: u64,
     pub entry: &'a Entry,
     pub node: u16,
     ghost same: { ticket ≡ entry.now.ticket },
 }
 
-impl<'a> Noted<'a> {
+impl<'a> LoggedEntry<'a> {
     ghost use Rattle.std.specs.Prelude.{◌≡◌, ◌↔◌, IsTrue};
     ghost use Rattle.cops_cluster.specs.Shares.{made};
     ghost use Rattle.cops_cluster.specs.Differing.{shown};
@@ -20,7 +20,7 @@ impl<'a> Noted<'a> {
     pub(crate) fn new(entry: &'a Entry, node: u16) -> Self
         ensures { shown result ≡ made node entry.now }
     {
-        Noted {
+        LoggedEntry {
             ticket: entry.ticket,
             entry,
             node,
@@ -28,7 +28,7 @@ impl<'a> Noted<'a> {
     }
 
     /// Whether both are the same entry of the same node.
-    pub(crate) fn is(&self, other: &Noted<'_>) -> bool
+    pub(crate) fn is(&self, other: &LoggedEntry<'_>) -> bool
         ensures { IsTrue result ↔ (shown self.now ≡ shown other.now) }
     {
         if self.node != other.node {

@@ -17,7 +17,7 @@ import tempfile
 import typing
 
 ROOT = os.path.dirname(os.path.dirname(os.path.abspath(__file__)))
-WORKS = os.path.join(ROOT, "crates", "cops_vectors")
+VECTORS = os.path.join(ROOT, "crates", "cops_vectors")
 SECONDS = 60
 # The output for two clients of which at least one stopped because it was out of memory.
 STOPPED = re.compile(
@@ -32,10 +32,10 @@ def example(name):
 
 
 def data(name):
-    return os.path.join(WORKS, "data", name)
+    return os.path.join(VECTORS, "data", name)
 
 
-class Work(typing.NamedTuple):
+class Case(typing.NamedTuple):
     """A command, its expected status and output if nothing fails, and the statuses that it may end with otherwise."""
 
     name: str
@@ -46,30 +46,31 @@ class Work(typing.NamedTuple):
     other: typing.Optional[re.Pattern] = None
 
 
-def works():
-    with open(data("stale.lines"), "rb") as file:
+def cases():
+    program = os.path.join(ROOT, "crates", "cops", "out", "cops")
+    vectors, report_path = [os.path.join(VECTORS, "out", "cops_vectors"), "allocations"], data("stale.lines")
+    puts = [*vectors, example("newer_put_elsewhere.json"), data("events.lines"), example("stale.trace"), report_path]
+    # The report on the stale get is the same if the newer put is a deletion.
+    deletions = [*vectors, example("deleted_elsewhere.json"), data("deleted.lines"), example("stale_deleted.trace"), report_path]
+    with open(report_path, "rb") as file:
         report = file.read()
     with open(data("stale.explained"), "rb") as file:
         explained = file.read()
-    program = os.path.join(ROOT, "crates", "cops", "out", "cops")
-    own = [os.path.join(WORKS, "out", "cops_vectors"), "growths", example("newer_put_elsewhere.json"), data("events.lines"), example("stale.trace"), data("stale.lines")]
-    # The report on the stale get is the same if the newer put is a deletion.
-    deletions = [*own[:2], example("deleted_elsewhere.json"), data("deleted.lines"), example("stale_deleted.trace"), data("stale.lines")]
     imported = b"client 0 writer\nclient 1 reader\nimported: 2 operations, 2 clients\n"
     ran = b"client 0 done\nclient 1 done\naccepted: 4 operations, 2 puts\n"
     return [
-        Work("works", own, (0, b"as wanted\n"), (1,)),
-        Work("works with deletions", deletions, (0, b"as wanted\n"), (1,)),
-        Work("audit", [program, "audit", example("stale.trace")], (1, report)),
-        Work("audit by two workers", [program, "audit", example("stale.trace"), "--workers", "2"], (1, report)),
-        Work("audit so far", [program, "audit", example("stale.trace"), "--so-far"], (1, report)),
-        Work("explain", [program, "explain", example("stale.trace"), "--picture", os.devnull], (1, explained)),
-        Work("import", [program, "import", example("put_and_get.jsonl"), os.devnull], (0, imported)),
+        Case("test vectors", puts, (0, b"as wanted\n"), (1,)),
+        Case("test vectors with deletions", deletions, (0, b"as wanted\n"), (1,)),
+        Case("audit", [program, "audit", example("stale.trace")], (1, report)),
+        Case("audit by two workers", [program, "audit", example("stale.trace"), "--workers", "2"], (1, report)),
+        Case("audit so far", [program, "audit", example("stale.trace"), "--so-far"], (1, report)),
+        Case("explain", [program, "explain", example("stale.trace"), "--picture", os.devnull], (1, explained)),
+        Case("import", [program, "import", example("put_and_get.jsonl"), os.devnull], (0, imported)),
         # Standard input has no lines.
-        Work("import of standard input", [program, "import", "-", os.devnull], (0, b"imported: 0 operations, 0 clients\n")),
+        Case("import of standard input", [program, "import", "-", os.devnull], (0, b"imported: 0 operations, 0 clients\n")),
         # An operation is tried once more, so that both clients are done whichever of their allocations fails.
-        Work("run", [program, "run", data("scripts.json"), os.devnull], (0, ran)),
-        Work("run without another try", [program, "run", data("scripts_once.json"), os.devnull], (0, ran), other=STOPPED),
+        Case("run", [program, "run", data("scripts.json"), os.devnull], (0, ran)),
+        Case("run without another try", [program, "run", data("scripts_once.json"), os.devnull], (0, ran), other=STOPPED),
     ]
 
 
@@ -86,37 +87,37 @@ class Refusing:
         environment = {"LD_PRELOAD": self.library, "REFUSED": f"{kind} {number}"}
         return subprocess.run(words, env=environment, input=stdin, capture_output=True, timeout=SECONDS)
 
-    def run(self, work, kind, number):
+    def run(self, case, kind, number):
         """The status and the output of a test case in which that call fails, and whether there was such a call."""
-        ran = self.ran(work.words, kind, number)
+        ran = self.ran(case.words, kind, number)
         return (ran.returncode, ran.stdout), b"refused\n" in ran.stderr
 
 
-def is_other(work, ended):
-    return work.other is not None and ended[0] == 0 and work.other.match(ended[1]) is not None
+def is_other(case, ended):
+    return case.other is not None and ended[0] == 0 and case.other.match(ended[1]) is not None
 
 
-def is_well(work, ended, call_failed):
+def is_well(case, ended, call_failed):
     status, out = ended
-    return ended == work.wanted or call_failed and (is_other(work, ended) or status in work.failures and work.wanted[1].startswith(out))
+    return ended == case.wanted or call_failed and (is_other(case, ended) or status in case.failures and case.wanted[1].startswith(out))
 
 
-def refused(refusing, work, kind):
+def refused(refusing, case, kind):
     """Makes each call of a kind fail, one in each run. Returns how many calls failed, and how many runs had a wrong result. If no run gave the other output
     that at least one must give, this counts as one more wrong result."""
     number, failed, others = 1, 0, 0
     with concurrent.futures.ThreadPoolExecutor(AT_ONCE) as pool:
         while True:
             numbers = range(number, number + 8 * AT_ONCE)
-            for at, (ended, call_failed) in zip(numbers, pool.map(lambda at: refusing.run(work, kind, at), numbers)):
-                others += is_other(work, ended)
-                if not is_well(work, ended, call_failed):
+            for at, (ended, call_failed) in zip(numbers, pool.map(lambda at: refusing.run(case, kind, at), numbers)):
+                others += is_other(case, ended)
+                if not is_well(case, ended, call_failed):
                     failed += 1
-                    print(f"{work.name}, {kind} {at} refused: {ended}")
+                    print(f"{case.name}, {kind} {at} refused: {ended}")
                 if not call_failed or failed > MAX_REPORTED:
-                    if work.other and kind == "growth" and not others:
+                    if case.other and kind == "allocation" and not others:
                         failed += 1
-                        print(f"{work.name}: no run ended with a client that stopped for memory")
+                        print(f"{case.name}: no run ended with a client that stopped for memory")
                     return at - 1, failed
             number = numbers.stop
 
@@ -130,7 +131,7 @@ def is_import_well(ran, kind, trace, older, whole):
     if ran.returncode == 0:
         return trace == whole
     if trace == older:
-        return call_failed and ended in {"growth": [(MEMORY, b"failed: memory\n")], "read": [(DEVICE, b"failed: read\n"), copy], "write": [copy]}[kind]
+        return call_failed and ended in {"allocation": [(MEMORY, b"failed: memory\n")], "read": [(DEVICE, b"failed: read\n"), copy], "write": [copy]}[kind]
     return call_failed and whole.startswith(trace) and ended == {"read": copy, "write": (DEVICE, b"failed: write\n")}.get(kind)
 
 
@@ -159,7 +160,7 @@ def imports_into(refusing, folder, kind, stdin):
 def imports(refusing, folder):
     with open(example("put_and_get.jsonl"), "rb") as file:
         lines = file.read()
-    found = [imports_into(refusing, folder, kind, stdin) for kind in ("growth", "read", "write") for stdin in (b"", lines)]
+    found = [imports_into(refusing, folder, kind, stdin) for kind in ("allocation", "read", "write") for stdin in (b"", lines)]
     print(f"import into a file with an older trace: {sum(it[0] for it in found)} runs ended well")
     return [sum(it) for it in zip(*found)]
 
@@ -168,9 +169,9 @@ def main():
     passed = failed = 0
     with tempfile.TemporaryDirectory() as folder:
         refusing = Refusing(folder)
-        for work in works():
-            counts = {kind: refused(refusing, work, kind) for kind in ("growth", "read", "write")}
-            print(f"{work.name}: refused in turn {', '.join(f'{count} {kind}s' for kind, (count, _) in counts.items())}")
+        for case in cases():
+            counts = {kind: refused(refusing, case, kind) for kind in ("allocation", "read", "write")}
+            print(f"{case.name}: refused in turn {', '.join(f'{count} {kind}s' for kind, (count, _) in counts.items())}")
             # One more run of each kind has no failure.
             passed += sum(count + 1 - wrong for count, wrong in counts.values())
             failed += sum(wrong for _, wrong in counts.values())

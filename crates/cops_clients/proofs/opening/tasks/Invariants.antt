@@ -1,10 +1,10 @@
 use Rattle.std.proofs.Common.{◌≡◌, All, map}
 use Rattle.cops_clients.specs.Opening.{HasItsScript}
 use Rattle.cops_clients.specs.declared.clients.ClientTask.{ClientTask}
-use Rattle.cops_clients.proofs.opening.jobs.Given as goal
+use Rattle.cops_clients.proofs.opening.tasks.Given as goal
 
 abbrev pub invariant-loop-client : goal.invariant-loop-client
 invariant-loop-client l = record {
-  clients : map (λ (j : ClientTask). j.client) l.jobs.items ≡ l.yielded;
-  scripts : All (HasItsScript l.scripted) l.jobs.items;
+  clients : map (λ (j : ClientTask). j.client) l.tasks.items ≡ l.yielded;
+  scripts : All (HasItsScript l.scripted) l.tasks.items;
 }
