@@ -62,7 +62,7 @@ def took(status, *command):
 
 def run_round(scenario, cut, trace, operations):
     """The operations per second of a run, and the number of cores that it keeps busy."""
-    whole, read, audited = took(0, COPS, "run", scenario, trace), took(2, COPS, "run", cut, trace), took(0, COPS, "audit", trace)
+    whole, read, audited = took(0, COPS, "run", scenario, trace), took(2, COPS, "run", cut, os.devnull), took(0, COPS, "audit", trace)
     wall, busy = (whole[at] - read[at] - audited[at] for at in (0, 1))
     return operations / max(1e-9, wall), busy / max(1e-9, wall)
 
