@@ -2,6 +2,8 @@
 //! anything about either.
 ghost use Rattle.std.specs.Prelude.{◌≡◌};
 
+use cops_types::Format;
+use cops_wire::{Buffer, whole_body};
 use std::io;
 use std::io::{Eprint, Read, Write};
 use std::time::{Clock, Instant};
@@ -9,46 +11,29 @@ use std::time::{Clock, Instant};
 /// For how many seconds a command reads before it shows how much it read, and then until it shows it again.
 const PATIENCE: u64 = 1;
 
-/// The length of the frames of a head and of an end. That of each record is greater.
-const NO_RECORD: u32 = 5;
+/// The length of the bodies of a head and of an end. That of each record is greater.
+const NO_RECORD: usize = 5;
 
-/// Counts the records of a text byte by byte. A frame is a length of four bytes, the most significant first, and then
-/// as many bytes.
+/// Counts the records of a trace that comes in pieces.
 #[derive(Drop)]
 struct FrameRecords {
     ended: u64,
-    length: u32,
-    length_bytes: u8,
-    left: u32,
+    rest: Buffer,
 }
 
 impl FrameRecords {
-    fn new() -> FrameRecords {
-        FrameRecords {
-            ended: 0,
-            length: 0,
-            length_bytes: 0,
-            left: 0,
-        }
-    }
-
-    fn take(&mut self, byte: u8) {
-        if self.left == 0 {
-            self.take_length(byte);
+    /// Counts the records that are whole with this piece. It counts none from a length on that no frame has, where
+    /// reading the trace ends too.
+    fn take(&mut self, piece: &[u8]) {
+        if self.rest.feed(piece).is_err() {
             return;
         }
-        self.left -= 1;
-        if self.left == 0 && self.length > NO_RECORD {
-            self.ended = self.ended.saturating_add(1);
-        }
-    }
-
-    fn take_length(&mut self, byte: u8) {
-        self.length = (self.length << 8) | u32::from(byte);
-        self.length_bytes = self.length_bytes.wrapping_add(1);
-        if self.length_bytes == 4 {
-            self.left = self.length;
-            self.length_bytes = 0;
+        while let Ok(body) = whole_body(Format::Two, self.rest.rest()) {
+            let len = body.len();
+            if len > NO_RECORD {
+                self.ended = self.ended.saturating_add(1);
+            }
+            self.rest.take(4 + len);
         }
     }
 }
@@ -65,11 +50,7 @@ enum ProgressCounts {
 impl ProgressCounts {
     fn take(&mut self, piece: &[u8]) {
         match self {
-            ProgressCounts::FrameRecords(records) => {
-                for byte in piece {
-                    records.take(*byte);
-                }
-            }
+            ProgressCounts::FrameRecords(records) => records.take(piece),
             ProgressCounts::Lines { ended, .. } => {
                 for byte in piece {
                     if *byte == b'\n' {
@@ -184,13 +165,16 @@ pub struct Watched<'r, R, I> {
     progress: Option<Progress<'r, R>>,
 }
 
-impl<'r, R, I> Watched<'r, R, I> {
+impl<'r, R: AllocGlobal, I> Watched<'r, R, I> {
     /// An input of which nothing is read yet. It shows nothing where `begun` is `None`.
     pub fn new(rt: &'r R, input: I, reading: Reading, begun: Option<Instant>) -> Self
         ensures { result.input ≡ input }
     {
         let counts = match reading {
-            Reading::Trace => ProgressCounts::FrameRecords(FrameRecords::new()),
+            Reading::Trace => ProgressCounts::FrameRecords(FrameRecords {
+                ended: 0,
+                rest: Buffer::new(rt.alloc()),
+            }),
             Reading::Lines(reading) => ProgressCounts::Lines { ended: 0, reading },
         };
         let progress = match begun {

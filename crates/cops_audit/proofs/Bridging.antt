@@ -24,7 +24,7 @@ use Rattle.cops_audit.proofs.Clearing.{stands_for}
 use Rattle.cops_audit.proofs.Learning.{one_put_at}
 use Rattle.cops_audit.proofs.Listing.{slice_get_there}
 use Rattle.cops_audit.proofs.Marks.{slice_get_inside}
-use Rattle.cops_audit.proofs.Noting.{summary_there, session_of}
+use Rattle.cops_audit.proofs.Summarizing.{summary_there, session_of}
 use Rattle.cops_audit.proofs.PastMarks.{put_mark}
 use Rattle.cops_audit.proofs.Places.{inside_table, place_rises, put_there, same_place}
 use Rattle.cops_audit.proofs.Reading.{says, seen_got, seen_put}

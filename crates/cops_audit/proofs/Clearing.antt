@@ -13,7 +13,7 @@ use Rattle.cops_audit.specs.declared.summaries.OpPlace.TheVariants.{Put, Got, Mi
 use Rattle.cops_audit.specs.Tables.{IsPutTable, IsVersionTable}
 use Rattle.cops_audit.specs.Summaries.{above, IsSummarized, IsSeen, StandsAt, summary_at}
 use Rattle.cops_audit.specs.Windows.{NoneWithin}
-use Rattle.cops_audit.proofs.Noting.{summary_there}
+use Rattle.cops_audit.proofs.Summarizing.{summary_there}
 use Rattle.cops_audit.proofs.PastMarks.{mark_is, past_mark}
 use Rattle.cops_audit.proofs.Places.{place_of_put, same_place}
 use Rattle.cops_audit.proofs.Reading.{missed_gets_nothing, missed_puts_nothing, says, seen_get, seen_put}

@@ -18,7 +18,7 @@ use Rattle.cops_audit.specs.Sweeps.{AreRising, Counted, SummaryPast}
 use Rattle.cops_audit.proofs.Learning.{one_put_at}
 use Rattle.cops_audit.proofs.Linking.{written}
 use Rattle.cops_audit.proofs.Marks.{slice_get_push}
-use Rattle.cops_audit.proofs.Noting.{set_here, set_other}
+use Rattle.cops_audit.proofs.Summarizing.{set_here, set_other}
 
 -- counts that do not fall
 pub counted_more : (old new : List ℕ) → ((k : ℕ) → slice_index old k ≤ slice_index new k) → (name : OpName) → Counted old name → Counted new name

@@ -119,12 +119,6 @@ among_same name_of F G names faults same lists = record {
   in_order = lists.in_order;
 }
 
-pub all_listed : {A : Type 0} (name_of : A → OpName) (IsFault : A → Type 0) (names : List OpName) (i : ℕ) (faults : List A)
-    → length names ≤ i → ListsAmong name_of IsFault (take i names) faults
-    → ((x : A) → IsFault x → Contains names (name_of x)) → Lists name_of IsFault faults
-all_listed name_of IsFault names i faults enough lists named =
-    among_all name_of IsFault names faults (subst (λ ns. ListsAmong name_of IsFault ns faults) (take_all i names enough) lists) named
-
 -- what holds of each element so far and of the next one
 pub each_next : {A : Type 0} (P : A → Type 0) (xs : List A) (i : ℕ) (e : A) → i < length xs → ((k : ℕ) (d : A) → k < i → P (get_or xs k d)) → P (get_or xs i e) → (k : ℕ) (d : A) → k < i + 1 → P (get_or xs k d)
 each_next P xs i e inside old new k d less = elim (eq-or-lt_of_le (let le : k ≤ i = omega (arith, less) in le)) [

@@ -1,16 +1,11 @@
 -- Names that differ.
-use Rattle.std.proofs.Common.{◌≡◌, ◌≢◌, ◌&&◌, ◌⊎◌, Bool, true, false, eqb, List, AllPairs, get_or, inl, inr, ◌∙◌, ap, arith}
+use Rattle.std.proofs.Common.{◌≡◌, ◌≢◌, ◌&&◌, ◌⊎◌, Bool, true, false, eqb, List, AllPairs, get_or, inl, inr, ◌∙◌, ap}
 use Rattle.std.specs.List.Sorted.{IsPermutation}
 use Rattle.std.proofs.lemmas.Bool.Decides.{eqb_tells}
 use Rattle.std.proofs.lemmas.Bool.{eq-eqb}
 use Rattle.cops_types.specs.declared.op.OpName.{OpName}
-use Rattle.cops_types.specs.Faults.{IsBefore}
 use Rattle.cops_audit.proofs.Acyclic.{same_name}
 use Rattle.cops_audit.proofs.Sorting.{eqb-comm, still_apart}
-
-pub before_differs : (a b : OpName) → IsBefore a b → a ≢ b
-before_differs a b (inl less) same = omega (arith, less, ap (λ (x : OpName). x.client) same)
-before_differs a b (inr less) same = omega (arith, less.1, ap (λ (x : OpName). x.index) same)
 
 pub name_cases : (a b : OpName) → (a ≡ b) ⊎ (a ≢ b)
 name_cases a b = by_cases (eqb_tells a.client b.client) (eqb_tells a.index b.index)
@@ -34,9 +29,9 @@ is_same-refl a b e = both {p = eqb a.client b.client} {q = eqb a.index b.index} 
 apart : (a b : OpName) → is_same a b ≡ false → a ≢ b
 apart a b test same = let other = is_same-refl a b same in cc
 
-reports : (a b : OpName) → a ≢ b → is_same a b ≡ false
+differing_names : (a b : OpName) → a ≢ b → is_same a b ≡ false
 unfolding is_same
-reports a b differ = by_cases (eqb_tells a.client b.client) (eqb_tells a.index b.index)
+differing_names a b differ = by_cases (eqb_tells a.client b.client) (eqb_tells a.index b.index)
   where
     by_cases : ((eqb a.client b.client ≡ true) × (a.client ≡ b.client)) ⊎ ((eqb a.client b.client ≡ false) × (a.client ≢ b.client))
         → ((eqb a.index b.index ≡ true) × (a.index ≡ b.index)) ⊎ ((eqb a.index b.index ≡ false) × (a.index ≢ b.index)) → (eqb a.client b.client && eqb a.index b.index) ≡ false
@@ -53,4 +48,4 @@ pub names_differ : {A : Type 0} (name_of : A → OpName) (xs ys : List A) → Is
 names_differ name_of xs ys permutation differ = λ i j d less inside.
     apart (name_of (get_or ys i d)) (name_of (get_or ys j d))
     (still_apart (λ x y. is_same (name_of x) (name_of y)) (λ x y. is_same-comm (name_of x) (name_of y)) xs ys permutation
-    (λ a b e l n. reports (name_of (get_or xs a e)) (name_of (get_or xs b e)) (differ a b e l n)) i j d less inside)
+    (λ a b e l n. differing_names (name_of (get_or xs a e)) (name_of (get_or xs b e)) (differ a b e l n)) i j d less inside)

@@ -3,7 +3,7 @@ use Rattle.std.proofs.Common.{◌≡◌, ◌<◌, ◌+◌, ◌++◌, ◌∙◌, 
 use Rattle.std.proofs.lemmas.Bool.{eqb-true, eq-eqb, false_from_ne_true}
 use Rattle.std.proofs.lemmas.List.{length-map, length-replicate, map-append, map-set, replicate-append-replicate, set-append_left}
 use Rattle.cops_audit.specs.declared.epochs.EpochEntry.{EpochEntry}
-use Rattle.cops_audit.specs.Tallies.{number_in, numbers_in}
+use Rattle.cops_audit.specs.EpochNumbers.{number_in, numbers_in}
 
 same_epoch : (t n : ℕ) → number_in t (record { epoch = t; number = n }) ≡ n
 same_epoch t n = ap (λ b. cond b n 0) (eq-eqb t t refl)

@@ -8,7 +8,7 @@ use Rattle.cops_audit.specs.declared.flat.Span.{Span}
 use Rattle.cops_audit.specs.declared.summaries.Summary.{Summary}
 use Rattle.cops_types.specs.declared.versioned_put.VersionedPut.{VersionedPut}
 use Rattle.cops_audit.specs.Summaries.{IsSessionSummarized, IsWithin, span_of}
-use Rattle.cops_audit.proofs.Noting.{get_high, get_low}
+use Rattle.cops_audit.proofs.Summarizing.{get_high, get_low}
 
 module _ (summaries session : List Summary) where
   -- a span of the summaries stays as it is where more follow

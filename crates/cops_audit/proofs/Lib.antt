@@ -19,7 +19,7 @@ pub mod Positions
 pub mod Gets
 pub mod Marks
 pub mod Doubling
-pub mod Noting
+pub mod Summarizing
 pub mod Flattening
 pub mod Reading
 pub mod EpochsLemmas

@@ -1,9 +1,7 @@
 -- The mark of a session: what its operations saw is below it.
-use Rattle.std.proofs.Common.{◌≡◌, ◌<◌, ◌≤◌, ◌+◌, ◌⊎◌, ℕ, zero, suc, List, [], ◌∷◌, ◌++◌, length, get_or, Some, refl, sym, ◌∙◌, ap, subst, inl, inr, arith, slice_get}
-use Rattle.std.proofs.Math.Nat.{eq-or-lt_of_le}
+use Rattle.std.proofs.Common.{◌≡◌, ◌<◌, ◌≤◌, ◌+◌, ◌⊎◌, ℕ, zero, suc, List, [], ◌∷◌, ◌++◌, length, Some, refl, sym, ◌∙◌, ap, subst, inl, inr, arith, slice_get}
 use Rattle.cops_audit.specs.declared.summaries.Summary.{Summary}
-use Rattle.cops_audit.specs.Summaries.{above, AreMarks, IsMark}
-use Rattle.cops_audit.proofs.Unique.{stands}
+use Rattle.cops_audit.specs.Summaries.{above, IsMark}
 
 -- an element of a longer list is one before the last, or the last
 pub slice_get_push : {A : Type 0} (xs : List A) (y q : A) (i : ℕ) → slice_get (xs ++ y ∷ []) i ≡ Some q → (slice_get xs i ≡ Some q) ⊎ ((i ≡ length xs) × (y ≡ q))
@@ -62,28 +60,3 @@ mark_grows session i j m n a b le = elim a.reached [
   | inl none ↦ omega (arith, none)
   | inr r ↦ omega (arith, b.bounds r.0 r.1 (omega (arith, r.2, le)) r.3, r.4)
 ]
-
--- marks do not fall along a session
-pub marks_rise : (session : List Summary) → AreMarks session → (i j : ℕ) (d : Summary) → i ≤ j → j < length session → (get_or session i d).mark ≤ (get_or session j d).mark
-marks_rise session marks i j d le inside =
-    mark_grows session (i + 1) (j + 1) (get_or session i d).mark (get_or session j d).mark
-    (marks i (get_or session i d) (stands session i d (omega (arith, le, inside)))) (marks j (get_or session j d) (stands session j d inside)) (omega (arith, le))
-
--- where the mark first rises above a place, the operation itself raises it
-pub mark_crosses : (session : List Summary) → AreMarks session → (i place : ℕ) (summary : Summary) → slice_get session i ≡ Some summary → place < summary.mark
-    → ((j : ℕ) (x : Summary) → j < i → slice_get session j ≡ Some x → x.mark ≤ place) → place < above summary.seen
-mark_crosses session marks i place summary at high low =
-    let m = marks i summary at in
-    elim m.reached [
-      | inl none ↦ absurd (omega (arith, none, high))
-      | inr r ↦ elim (eq-or-lt_of_le (let le : r.0 ≤ i = omega (arith, r.2) in le)) [
-        | inl same ↦
-            let e : Some r.1 ≡ Some summary = sym r.3 ∙ ap (slice_get session) same ∙ at in
-            let e' : r.1 ≡ summary = cc in
-            let s : above r.1.seen ≡ above summary.seen = ap (λ (x : Summary). above x.seen) e' in
-            omega (arith, s, r.4, high)
-        | inr before ↦
-            let own : above r.1.seen ≤ r.1.mark = (marks r.0 r.1 r.3).bounds r.0 r.1 (omega arith) r.3 in
-            absurd (omega (arith, own, low r.0 r.1 before r.3, r.4, high))
-      ]
-    ]

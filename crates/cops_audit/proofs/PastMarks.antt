@@ -13,7 +13,7 @@ use Rattle.cops_audit.specs.Tables.{IsVersionTable}
 use Rattle.cops_audit.specs.Summaries.{above, IsSummarized, IsSeen, summary_at}
 use Rattle.cops_audit.proofs.Firsts.{versions_rise}
 use Rattle.cops_audit.proofs.Marks.{mark_grows}
-use Rattle.cops_audit.proofs.Noting.{summary_there, session_of}
+use Rattle.cops_audit.proofs.Summarizing.{summary_there, session_of}
 use Rattle.cops_audit.proofs.PastOrder.{past_to}
 use Rattle.cops_audit.proofs.Places.{same_place}
 use Rattle.cops_audit.proofs.Reading.{above_version, says, seen_got, seen_put}

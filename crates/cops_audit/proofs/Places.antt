@@ -94,8 +94,8 @@ neighbour_of_doubled h table t name v place inside at put f =
     let b = place_of_put h table t f.other v (subst (PutsVersion h f.other) same f.other_put) in
     let apart : a.0 ≢ b.0 = λ e. f.differs (ap (λ (q : VersionedPut). q.name) (sym (b.2 (record { version = v; name = name })) ∙ ap (λ j. get_or table j (record { version = v; name = name })) (sym e) ∙ a.2 (record { version = v; name = name }))) in
     elim (eqb_tells a.0 place) [
-      | inl p ↦ parallel b.0 b.1 (λ d. ap (λ (q : VersionedPut). q.version) (b.2 d)) (λ e. apart (p.1 ∙ sym e))
-      | inr p ↦ parallel a.0 a.1 (λ d. ap (λ (q : VersionedPut). q.version) (a.2 d)) p.1
+      | inl p ↦ has_neighbour b.0 b.1 (λ d. ap (λ (q : VersionedPut). q.version) (b.2 d)) (λ e. apart (p.1 ∙ sym e))
+      | inr p ↦ has_neighbour a.0 a.1 (λ d. ap (λ (q : VersionedPut). q.version) (a.2 d)) p.1
     ]
   where
     -- all places between two places of one version have it too
@@ -111,8 +111,8 @@ neighbour_of_doubled h table t name v place inside at put f =
         ] in
         omega (arith, low, high, vi, vj)
 
-    parallel : (q : ℕ) → q < length table → ((d : VersionedPut) → (get_or table q d).version ≡ v) → q ≢ place → Beside table place
-    parallel q in_q at_q differs = elim (cases_lt q place) [
+    has_neighbour : (q : ℕ) → q < length table → ((d : VersionedPut) → (get_or table q d).version ≡ v) → q ≢ place → Beside table place
+    has_neighbour q in_q at_q differs = elim (cases_lt q place) [
       | inl less ↦ (place - 1, omega (arith, inside), inl (omega (arith, less)), λ d. between q place (place - 1) d (omega (arith, less)) (omega arith) inside (at_q d) (at d) ∙ sym (at d))
       | inr le ↦ (place + 1, omega (arith, le, in_q, differs), inr refl, λ d. between place q (place + 1) d (omega arith) (omega (arith, le, differs)) in_q (at d) (at_q d) ∙ sym (at d))
     ]

@@ -12,7 +12,7 @@ use Rattle.cops_audit.specs.Tables.{IsVersionTable}
 use Rattle.cops_audit.specs.Summaries.{above, IsSummarized, IsSeen, IsSourceless, StandsAt, summary_at}
 use Rattle.cops_audit.proofs.Acyclic.{one_version, put_is_no_get}
 use Rattle.cops_audit.proofs.Gets.{one_get_version}
-use Rattle.cops_audit.proofs.Noting.{summary_there, session_of}
+use Rattle.cops_audit.proofs.Summarizing.{summary_there, session_of}
 use Rattle.cops_audit.proofs.Places.{place_rises}
 
 -- a get that found nothing is no put and no get of a version

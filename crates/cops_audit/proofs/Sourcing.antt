@@ -6,7 +6,7 @@ use Rattle.cops_types.specs.declared.op.OpName.{OpName}
 use Rattle.cops_types.specs.declared.versioned_put.VersionedPut.{VersionedPut}
 use Rattle.cops_types.specs.Histories.{Sessions, IsPut, SourceStep, op_at, Operation, read}
 use Rattle.cops_types.specs.Operations.{GetsVersion}
-use Rattle.cops_types.specs.Recorded.{Recorded, IsOpenAt}
+use Rattle.cops_types.specs.Recorded.{Recorded, IsPendingAt}
 use Rattle.cops_types.specs.Verdicts.{AllHaveSources}
 use Rattle.cops_audit.specs.declared.summaries.OpPlace.TheVariants.{Got as SeenGot}
 use Rattle.cops_audit.specs.Summaries.{IsSeen}
@@ -38,7 +38,7 @@ places_push r table places place are is number found op get at = elim (slice_get
 
 -- where there is a place for each pending read, each get has its source
 pub all_sourced : (r : Recorded) (table : List VersionedPut) (places : List ℕ) → AreSourcePlaces r table places → length places ≡ length r.gets
-    → ((got : OpName) (version : ℕ) → GetsVersion r.sessions got version → ((number : ℕ) × IsOpenAt r number got) ⊎ ((put : OpName) × SourceStep r.sessions put got)) → AllHaveSources r.sessions
+    → ((got : OpName) (version : ℕ) → GetsVersion r.sessions got version → ((number : ℕ) × IsPendingAt r number got) ⊎ ((put : OpName) × SourceStep r.sessions put got)) → AllHaveSources r.sessions
 all_sourced r table places are whole others name f = elim (others name f.version (f.key, f.content, f.got)) [
   | inr sourced ↦ f.none sourced.0 sourced.1
   | inl it ↦

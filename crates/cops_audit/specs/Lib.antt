@@ -11,7 +11,7 @@ pub mod SoFar
 pub mod Sorted
 pub mod Sweeps
 pub mod Tables
-pub mod Tallies
+pub mod EpochNumbers
 pub mod Faults
 pub mod Climbs
 pub mod Floors

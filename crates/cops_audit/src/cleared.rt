@@ -1,4 +1,4 @@
-ghost use Rattle.std.specs.Prelude.{◌≡◌, ◌<◌, ◌≤◌, ◌+◌, ◌↔◌, ℕ, List, [], false, IfOk, IsTrue, OnOk, Some, length, map, replicate, slice_index, slice_index_or, vec_len, AllPairs};
+ghost use Rattle.std.specs.Prelude.{◌≡◌, ◌<◌, ◌≤◌, ◌+◌, ◌↔◌, ℕ, List, false, IfOk, IsTrue, OnOk, Some, length, map, replicate, slice_index, AllPairs};
 ghost use Rattle.cops_types.specs.declared.op.OpName.{OpName};
 ghost use Rattle.cops_types.specs.Histories.{Sessions};
 ghost use Rattle.cops_types.specs.Faults.{IsBefore};

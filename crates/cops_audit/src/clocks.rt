@@ -208,8 +208,8 @@ impl Clocks {
         known[client] = known[client].max(count);
     }
 
-    /// Passes the next operation of a client, whose causal summary is `summary`. Returns false where it got a put that was
-    /// not passed before, or whose clock is not kept.
+    /// Passes the next operation of a client, whose causal summary is `summary`. Returns false where it got a put that
+    /// was not passed before, or whose clock is not kept.
     pub fn pass(
         &mut self,
         table: &[VersionedPut],

@@ -42,7 +42,7 @@ fn fill(entries: &mut Vec<EpochEntry>, len: usize)
 
 impl Model for Epochs {
     ghost use Rattle.std.specs.Prelude.{List, ℕ, ◌≤◌, ◌-◌, All, vec_len, vec_capacity};
-    ghost use Rattle.cops_audit.specs.Tallies.{numbers_in};
+    ghost use Rattle.cops_audit.specs.EpochNumbers.{numbers_in};
 
     ghost Value = { List ℕ };
 

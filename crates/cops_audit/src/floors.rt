@@ -1,4 +1,4 @@
-ghost use Rattle.std.specs.Prelude.{◌≡◌, ◌<◌, ◌≤◌, ◌+◌, ◌-◌, ℕ, IfOk, IfSome, IfNone, IsOk, OnOk, IsTrue, length, map, slice_index, slice_index_or, vec_capacity, AllPairs};
+ghost use Rattle.std.specs.Prelude.{◌≡◌, ◌<◌, ◌≤◌, ◌+◌, ◌-◌, ℕ, IfOk, IfSome, IfNone, IsOk, OnOk, IsTrue, length, map, slice_index_or, vec_capacity, AllPairs};
 ghost use Rattle.cops_types.specs.Faults.{IsBefore};
 ghost use Rattle.cops_audit.specs.declared.window.Suspect.{Suspect};
 ghost use Rattle.cops_audit.specs.Sweeps.{ArePlaces, AreRising, HasRoom, IsNewestIn, NoneFrom};

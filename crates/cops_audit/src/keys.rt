@@ -1,5 +1,5 @@
 ghost use Rattle.cops_types.specs.declared.limits.TheConstants.{MAX_OPS};
-ghost use Rattle.std.specs.Prelude.{◌≡◌, ◌<◌, ◌≤◌, ◌+◌, ℕ, List, None, IfOk, IsOk, OnOk, length, slice_get, slice_index_or, vec_capacity, Some};
+ghost use Rattle.std.specs.Prelude.{◌≡◌, ◌<◌, ◌≤◌, ℕ, List, None, IfOk, IsOk, OnOk, length, slice_get, slice_index_or, vec_capacity, Some};
 ghost use Rattle.cops_types.specs.Counts.{count_of};
 ghost use Rattle.cops_types.specs.Histories.{IsNamed, Sessions};
 ghost use Rattle.cops_audit.specs.Keys.{AreFirsts, AreKeys, AreNexts, IsFirstFrom, IsOnKey, KnowsFirsts};

@@ -1,4 +1,4 @@
-ghost use Rattle.std.specs.Prelude.{◌≡◌, ◌≤◌, IfOk, length};
+ghost use Rattle.std.specs.Prelude.{◌≤◌, IfOk, length};
 ghost use Rattle.cops_audit.specs.Links.{AreLinks};
 ghost use Rattle.cops_audit.specs.Summaries.{AreSummarized, IsSummarized};
 ghost use Rattle.cops_audit.specs.Placing.{ArePutPlaces, AreSourcePlaces};

@@ -41,7 +41,7 @@ fn make_room<T: Drop>(items: &mut Vec<T>, count: usize) -> Result<(), AllocError
 }
 
 impl Scratch {
-    ghost use Rattle.std.specs.Prelude.{◌<◌, ◌+◌, ℕ, OnErr, OnOk, length};
+    ghost use Rattle.std.specs.Prelude.{◌<◌, ◌+◌, ℕ, OnOk, length};
     ghost use Rattle.cops_types.specs.Histories.{Operation, with_op};
     ghost use Rattle.cops_audit.specs.Rooms.{Fits, HasSpace, IsSameButSpace};
 

@@ -44,7 +44,7 @@ fn source_place(
     requires { IsVersionTable history.now.sessions table.now }
     ensures { IfSome result (λ place. (op : Operation) → slice_get history.now.gets number ≡ Some op → IsSourcePlace history.now.sessions table.now op place) }
 {
-    let got = history.open_get(number)?;
+    let got = history.pending_read(number)?;
     let OpRef::Got { version, .. } = got else {
         return None;
     };
@@ -66,7 +66,7 @@ pub fn find_sources(
     requires { IsVersionTable history.now.sessions table.now }
     ensures { IfOk result (AreSources history.now table.now) }
 {
-    let count = history.open_gets();
+    let count = history.pending_reads();
     let mut places = Vec::with_capacity(alloc, count)?;
     let buckets = Buckets::new(alloc, table, count);
     for number in 0..count {
@@ -89,7 +89,7 @@ fn is_sourceless(history: &History, table: &[VersionedPut], name: OpName) -> boo
     requires { IsVersionTable history.now.sessions table.now }
     ensures { IsTrue result ↔ HasNoSource history.now.sessions name }
 {
-    let Some(_open) = history.open_number(name) else {
+    let Some(_open) = history.pending_number(name) else {
         return false;
     };
     let Some(version) = history.got_version(name) else {

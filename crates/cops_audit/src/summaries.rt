@@ -1,11 +1,11 @@
-ghost use Rattle.std.specs.Prelude.{◌≡◌, ◌<◌, ◌≤◌, ◌+◌, ◌^◌, ◌↔◌, List, IfOk, IfSome, OnOk, IsTrue, length, map, vec_len, vec_capacity, All, AllPairs, slice_index_or, []};
+ghost use Rattle.std.specs.Prelude.{◌≡◌, ◌<◌, ◌≤◌, ◌+◌, ◌^◌, ◌↔◌, List, IfOk, IfSome, OnOk, IsTrue, length, map, vec_len, All, AllPairs, slice_index_or, []};
 ghost use Rattle.cops_types.specs.declared.limits.TheConstants.{MAX_CLIENTS};
 ghost use Rattle.cops_types.specs.declared.op.OpName.{OpName};
 ghost use Rattle.cops_types.specs.Histories.{IsNamed};
 ghost use Rattle.cops_types.specs.Operations.{GetsVersion};
 ghost use Rattle.cops_types.specs.Faults.{IsBefore};
 ghost use Rattle.cops_audit.specs.Names.{ListsAmong};
-ghost use Rattle.cops_audit.specs.Summaries.{above as above_of, ArePrefixesSummarized, AreLongEnough, AreMarks, HasDone, IsPrefixSummarized, IsMark, IsSeen, IsSessionSummarized, IsSourceless};
+ghost use Rattle.cops_audit.specs.Summaries.{above as above_of, ArePrefixesSummarized, AreLongEnough, AreMarks, HasDone, IsPrefixSummarized, IsMark, IsSeen, IsSourceless};
 ghost use Rattle.cops_audit.specs.Placing.{ArePutPlaces, AreSourcePlaces};
 ghost use Rattle.cops_audit.specs.Tables.{IsVersionTable};
 ghost use Rattle.cops_types.specs.declared.versioned_put.VersionedPut.{VersionedPut};
@@ -106,7 +106,7 @@ fn see_named(
         let place = place_at(places, number)?;
         return Some(OpPlace::Put(place));
     }
-    let number = history.open_number(name)?;
+    let number = history.pending_number(name)?;
     let place = place_at(sources, number)?;
     Some(OpPlace::Got(place))
 }
@@ -169,8 +169,8 @@ fn summary_on(
     requires table { IsVersionTable history.now.sessions table.now }
     requires places { ArePutPlaces history.now.puts table.now places.now }
     requires sources { AreSourcePlaces history.now table.now sources.now }
-    requires front { IsPrefixSummarized history.now.sessions table.now client summaries.old.items }
-    ensures front { OnOk result (IsPrefixSummarized history.now.sessions table.now client summaries.new.items) }
+    requires prefix { IsPrefixSummarized history.now.sessions table.now client summaries.old.items }
+    ensures prefix { OnOk result (IsPrefixSummarized history.now.sessions table.now client summaries.new.items) }
     ensures whole { OnOk result (length table.now ≤ place → length (slice_index_or history.now.sessions client []) ≤ vec_len summaries.new) }
 {
     let mut mark = last_mark(summaries.as_slice());
@@ -364,7 +364,6 @@ impl<'a> Model for Summaries<'a> {
 
 impl<'a> Summaries<'a> {
     ghost use Rattle.std.specs.Prelude.{◌≡◌, slice_index_or, []};
-    ghost use Rattle.std.specs.Option.{option_copied};
     ghost use Rattle.cops_audit.specs.Summaries.{summary_at};
 
     /// The causal summaries of a client's operations, in their order.

@@ -1,7 +1,7 @@
 ghost use Rattle.std.specs.Prelude.{◌≡◌, ◌<◌, ◌≤◌, ◌+◌, ℕ, List, [], IfSome, IfNone, IsOk, OnOk, AllPairs, length, vec_len, vec_capacity};
 ghost use Rattle.cops_types.specs.declared.op.OpName.{OpName};
 ghost use Rattle.cops_types.specs.Counts.{count_of};
-ghost use Rattle.cops_types.specs.Histories.{IsGot, IsMissed, IsNamed};
+ghost use Rattle.cops_types.specs.Histories.{IsMissed};
 ghost use Rattle.cops_types.specs.Faults.{IsBefore, IsNewer};
 ghost use Rattle.cops_types.specs.Verdicts.{AllAbove};
 ghost use Rattle.cops_audit.specs.SoFar.{HaveSourcesOrWait, IsWaiting};

@@ -3,7 +3,7 @@ use Rattle.std.proofs.Common.{◌≡◌, [], drop, true, false, Option, Some, re
 use Rattle.std.specs.Prelude.{IfSome}
 use Rattle.std.proofs.lemmas.List.{append-nil}
 use Rattle.cops_trace.specs.Text.{ATrace, IsTrace, text, end_text}
-use Rattle.cops_trace.specs.Answer.{front, progress_at}
+use Rattle.cops_trace.specs.Answer.{text_before, progress_at}
 use Rattle.cops_trace.specs.declared.found.Item.{Item}
 use Rattle.cops_trace.specs.declared.found.Item.TheVariants.{End}
 use Rattle.cops_trace.specs.Parsing.{is_end}
@@ -29,6 +29,6 @@ one_text t u h k e =
     let same : Some t ≡ Some u = both.0 in
     cc
 
-pub one_prefix : (b c : Option ATrace) → IfSome b IsTrace → IfSome c IsTrace → front b ≡ front c → b ≡ c
+pub one_prefix : (b c : Option ATrace) → IfSome b IsTrace → IfSome c IsTrace → text_before b ≡ text_before c → b ≡ c
 one_prefix b c h k e =
-    (prefixes_one (front b) b c [] [] (record { is_trace = h; parts = sym (append-nil (front b)) }) (record { is_trace = k; parts = e ∙ sym (append-nil (front c)) }) (nothing_last b) (nothing_last c)).0
+    (prefixes_one (text_before b) b c [] [] (record { is_trace = h; parts = sym (append-nil (text_before b)) }) (record { is_trace = k; parts = e ∙ sym (append-nil (text_before c)) }) (nothing_last b) (nothing_last c)).0

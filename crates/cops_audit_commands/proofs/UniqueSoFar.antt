@@ -10,7 +10,7 @@ use Rattle.cops_audit.specs.SoFar.{IsSoFar, IsWaiting}
 use Rattle.cops_audit.proofs.Unique.{one_listing, some_fault}
 use Rattle.cops_trace.specs.declared.fault.TraceFault.TheVariants.{Cut}
 use Rattle.cops_trace.specs.Text.{ATrace, sessions_of}
-use Rattle.cops_trace.specs.Answer.{HasFault, IsCutAfter, Says, front}
+use Rattle.cops_trace.specs.Answer.{HasFault, IsCutAfter, Says, text_before}
 use Rattle.cops_trace.specs.Lines.{fault_line}
 use Rattle.cops_trace.proofs.Readings.{one_answer}
 use Rattle.cops_wire.specs.Answer.{IsBytes}
@@ -50,10 +50,10 @@ one_place bytes t u n m fits h k = let one = one_answer bytes (Err (Cut n)) (Err
 
 one_cut : (bytes : List ℕ) (t u : ATrace) (n m : ℕ) → IsBytes bytes → IsCutAfter bytes t n → IsCutAfter bytes u m → t ≡ u
 one_cut bytes t u n m fits h k =
-    let place : length (front k.begun) ≡ length (front h.begun) = sym k.place ∙ sym (one_place bytes t u n m fits h k) ∙ h.place in
-    let size = length (front h.begun) in
-    let prefixes : front h.begun ≡ front k.begun =
-    sym (take_at (front h.begun) h.rest size refl) ∙ ap (take size) (sym h.begins.parts ∙ k.begins.parts) ∙ take_at (front k.begun) k.rest size place in
+    let place : length (text_before k.begun) ≡ length (text_before h.begun) = sym k.place ∙ sym (one_place bytes t u n m fits h k) ∙ h.place in
+    let size = length (text_before h.begun) in
+    let prefixes : text_before h.begun ≡ text_before k.begun =
+    sym (take_at (text_before h.begun) h.rest size refl) ∙ ap (take size) (sym h.begins.parts ∙ k.begins.parts) ∙ take_at (text_before k.begun) k.rest size place in
     let same = one_prefix h.begun k.begun h.begins.is_trace k.begins.is_trace prefixes in
     h.trace_is ∙ ap (λ (b : Option ATrace). unwrap_or b (record { format = One; clients = 0; records = [] })) same ∙ sym k.trace_is
 

@@ -1,7 +1,7 @@
 //! The audit of a trace's bytes.
 ghost use Rattle.std.specs.Prelude.{◌≡◌, ◌⊎◌, ◌↔◌, ◌<◌, List, ℕ, IfOk, IfErr, IfSome, IsErrOf, Ok, Err};
 ghost use Rattle.std.specs.Io.KnownBytes.{Keeps};
-ghost use Rattle.cops_types.specs.Failures.{Failed};
+ghost use Rattle.cops_types.specs.Failures.{ReportsFailure};
 ghost use Rattle.cops_types.specs.declared.limits.TheConstants.{MAX_WORKERS};
 ghost use Rattle.cops_types.specs.Counted.{failures, inner};
 ghost use Rattle.cops_trace.specs.Answer.{AgreesInto, TakesFrom};
@@ -190,8 +190,7 @@ fn read_and_reported<T: Threads + Wait + Sync, R: Read, G: Gate>(
     ensures says { IfOk result (λ reported. IfSome (R.remaining (inner reader.old)) (λ bytes. AuditSays bytes reported.0 reported.1.items)) }
     ensures bad { IsErrOf result StreamFault.BadWorkers → (workers ≡ 0) ⊎ (MAX_WORKERS < workers) }
     ensures held { IsErrOf result StreamFault.Held → (i : ℕ) × (i < workers) × MayHoldPiece (G.may_hold gate.now) i }
-    ensures read_count { IsErrOf result StreamFault.ReadFailed → Failed (failures reader.old) (failures reader.new) }
-    ensures read_heard { IsErrOf result StreamFault.ReadFailed ⊎ (failures reader.new ≡ failures reader.old) }
+    ensures reads { ReportsFailure (IsErrOf result StreamFault.ReadFailed) (failures reader.old) (failures reader.new) }
     ensures no_write { ¬ IsErrOf result StreamFault.WriteFailed }
 {
     reported(rt, alloc, read_into(alloc, reader), workers, gate)
@@ -231,10 +230,8 @@ pub fn audit_stream<T: Threads + Wait + Sync, R: Read, W: Write, G: Gate>(
     ensures held { IsErrOf result StreamFault.Held → (i : ℕ) × (i < workers) × MayHoldPiece (G.may_hold gate.now) i }
 
     // The devices' faults are reported exactly where they were met.
-    ensures write_count { IsErrOf result StreamFault.WriteFailed → Failed (failures writer.old) (failures writer.new) }
-    ensures read_count { IsErrOf result StreamFault.ReadFailed → Failed (failures reader.old) (failures reader.new) }
-    ensures write_heard { IsErrOf result StreamFault.WriteFailed ⊎ (failures writer.new ≡ failures writer.old) }
-    ensures read_heard { IsErrOf result StreamFault.ReadFailed ⊎ (failures reader.new ≡ failures reader.old) }
+    ensures writes { ReportsFailure (IsErrOf result StreamFault.WriteFailed) (failures writer.old) (failures writer.new) }
+    ensures reads { ReportsFailure (IsErrOf result StreamFault.ReadFailed) (failures reader.old) (failures reader.new) }
 {
     if workers == 0 {
         return Err(StreamFault::BadWorkers);

@@ -2,7 +2,7 @@
 ghost use Rattle.std.specs.Prelude.{◌≡◌, ◌⊎◌, ℕ, List, Err, IfErr, IfOk, IfSome, IsErrOf};
 ghost use Rattle.std.specs.Io.KnownBytes.{Keeps};
 ghost use Rattle.cops_types.specs.Counted.{failures, inner};
-ghost use Rattle.cops_types.specs.Failures.{Failed};
+ghost use Rattle.cops_types.specs.Failures.{ReportsFailure};
 ghost use Rattle.cops_trace.specs.Answer.{AgreesInto, TakesFrom};
 ghost use Rattle.cops_trace.specs.Text.{ATrace, sessions_of};
 ghost use Rattle.cops_audit.specs.SoFar.{IsSoFar};
@@ -110,10 +110,8 @@ pub fn audit_so_far<R: Read, W: Write>(
         WritesPrefixSoFar bytes (W.contents (inner writer.old)) (W.contents (inner writer.new))) }
 
     // A device's fault is reported exactly where it was met, the reader's and the writer's.
-    ensures read_count { IsErrOf result StreamFault.ReadFailed → Failed (failures reader.old) (failures reader.new) }
-    ensures read_heard { IsErrOf result StreamFault.ReadFailed ⊎ (failures reader.new ≡ failures reader.old) }
-    ensures write_count { IsErrOf result StreamFault.WriteFailed → Failed (failures writer.old) (failures writer.new) }
-    ensures write_heard { IsErrOf result StreamFault.WriteFailed ⊎ (failures writer.new ≡ failures writer.old) }
+    ensures reads { ReportsFailure (IsErrOf result StreamFault.ReadFailed) (failures reader.old) (failures reader.new) }
+    ensures writes { ReportsFailure (IsErrOf result StreamFault.WriteFailed) (failures writer.old) (failures writer.new) }
 {
     let (answer, text) = reported(alloc, read_into::<Fed, R>(alloc, reader))?;
     match write_text(writer, &text) {

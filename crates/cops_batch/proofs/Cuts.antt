@@ -7,7 +7,7 @@ use Rattle.std.proofs.lemmas.List.{get_or_append_left}
 use Rattle.cops_types.specs.declared.gate.Point.{Point}
 use Rattle.cops_batch.specs.declared.pieces.Piece.{Piece}
 use Rattle.cops_batch.specs.declared.pieces.PieceState.TheVariants.{Held}
-use Rattle.cops_batch.specs.Pieces.{Each, IsCut, IsStoppedByGate, IsReady, LiesWithin, MayHoldPiece, SamePlaces, piece_len}
+use Rattle.cops_batch.specs.Pieces.{Each, IsCut, IsStoppedByGate, MayHoldPiece, SamePlaces, piece_len}
 
 -- one more piece at the end
 pub cut_more : (i a b : ℕ) (ps : List Piece) (p : Piece) → IsCut i a ps b → p.number ≡ i + length ps → p.start ≡ b → IsCut i a (ps ++ p ∷ []) (b + p.len)
@@ -61,13 +61,6 @@ cut_same i a b (p ∷ ps) (q ∷ qs) len same cut =
       here.1 ∙ cut.1,
       subst P (sym n) (cut_same (i + 1) (a + p.len) b ps qs (omega (arith, len)) (λ k d below. same (suc k) d (omega (arith, below))) cut.2),
     )
-
--- pieces with the same numbers, starts and lengths are within as many operations
-pub ready_same : (n : ℕ) (may_hold : Point → Type 0) (ps qs : List Piece) → length qs ≡ length ps → SamePlaces ps qs → All (LiesWithin n) ps → Each (IsStoppedByGate may_hold) qs → All (IsReady n may_hold) qs
-ready_same n may_hold ps qs len same within held k d below =
-    let old : k < length ps = omega (arith, below, len) in
-    let place = same k d old in
-    (omega (arith, within k d old, place.1, place.2), held k d below)
 
 -- where a piece was held, the gate may hold it
 pub held_at : (may_hold : Point → Type 0) (ps : List Piece) (k : ℕ) (p : Piece) (b : ℕ) → k < length ps → p ≡ get_or ps k p → p.state ≡ Held

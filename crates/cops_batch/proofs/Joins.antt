@@ -1,5 +1,5 @@
 -- The faults of the pieces, one after the other.
-use Rattle.std.proofs.Common.{◌≡◌, ℕ, zero, suc, ◌+◌, ◌-◌, ◌<◌, ◌≤◌, List, [], ◌∷◌, ◌++◌, length, length-append, refl, sym, ◌∙◌, ap, inl, inr, arith, subst, get_or, take, drop, flat_map, slice_range, Contains, AllPairs}
+use Rattle.std.proofs.Common.{◌≡◌, ℕ, zero, suc, ◌+◌, ◌-◌, ◌<◌, ◌≤◌, List, [], ◌∷◌, ◌++◌, length, length-append, sym, ◌∙◌, ap, inl, inr, arith, subst, get_or, take, drop, flat_map, slice_range, Contains, AllPairs}
 use Rattle.std.proofs.lemmas.Bool.{cases_lt}
 use Rattle.std.proofs.lemmas.List.{take-append-drop, drop_all, get_or_append_left, get_or-append-add}
 use Rattle.std.proofs.lemmas.List.Elements.{Contains-append_left, Contains-append_right, Contains-append_cases, Contains-get_or}
@@ -10,11 +10,7 @@ use Rattle.cops_audit.specs.Names.{ListsAmong}
 use Rattle.cops_batch.specs.declared.pieces.Piece.{Piece}
 use Rattle.cops_batch.specs.declared.pieces.PieceState.TheVariants.{Fine}
 use Rattle.cops_batch.specs.Pieces.{Each, IsCut, names_of}
-
-get_or-any : {A : Type 0} (xs : List A) (i : ℕ) (d e : A) → i < length xs → get_or xs i d ≡ get_or xs i e
-get_or-any [] i d e inside = absurd (omega (arith, inside))
-get_or-any (x ∷ xs) zero d e inside = refl
-get_or-any (x ∷ xs) (suc i) d e inside = get_or-any xs i d e (omega (arith, inside))
+use Rattle.cops_audit.proofs.Collect.{get_or-default}
 
 module _ {A : Type 0} (R : A → A → Type 0) (xs ys : List A) where
   pairs_prefix : AllPairs R (xs ++ ys) → AllPairs R xs
@@ -30,7 +26,7 @@ module _ {A : Type 0} (R : A → A → Type 0) (xs ys : List A) where
   pairs_across : AllPairs R (xs ++ ys) → (x y : A) → Contains xs x → Contains ys y → R x y
   pairs_across all x y at_x at_y =
       let first : get_or (xs ++ ys) at_x.0 x ≡ x = get_or_append_left xs ys x at_x.0 at_x.1 ∙ at_x.2 in
-      let second : get_or (xs ++ ys) (length xs + at_y.0) x ≡ y = get_or-append-add xs ys at_y.0 x ∙ get_or-any ys at_y.0 x y at_y.1 ∙ at_y.2 in
+      let second : get_or (xs ++ ys) (length xs + at_y.0) x ≡ y = get_or-append-add xs ys at_y.0 x ∙ get_or-default ys at_y.0 x y at_y.1 ∙ at_y.2 in
       subst (λ z. R x z) second (subst (λ z. R z (get_or (xs ++ ys) (length xs + at_y.0) x)) first
       (all at_x.0 (length xs + at_y.0) x (omega (arith, at_x.1)) (omega (arith, at_y.1, length-append xs ys))))
 

@@ -1,6 +1,3 @@
-ghost use Rattle.std.specs.Prelude.{◌≡◌};
-ghost use Rattle.cops_batch.specs.declared.fault.BatchFault.TheVariants.{Memory as OutOfMemory};
-
 use cops_types::Memory;
 use std::alloc::AllocError;
 use thiserror::Error;

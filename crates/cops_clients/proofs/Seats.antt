@@ -1,7 +1,6 @@
 -- The holders of the shares that the threads return.
-use Rattle.std.proofs.Common.{◌≡◌, ◌⊎◌, Bool, IsTrue, ℕ, suc, ◌<◌, Result, Ok, Err, inl, inr, append_assoc, slice_index_or, List, [], ◌∷◌, ◌++◌, All, length, map, ap, refl, sym, subst, ◌∙◌, arith}
+use Rattle.std.proofs.Common.{◌≡◌, ℕ, suc, ◌<◌, Result, Ok, Err, slice_index_or, List, [], ◌∷◌, ◌++◌, All, length, map, ap, refl, sym, subst, ◌∙◌, arith}
 use Rattle.std.specs.Prelude.{IfOk}
-use Rattle.std.proofs.lemmas.List.{map_push}
 use Rattle.std.proofs.lemmas.List.Elements.{All-cons}
 use Rattle.cops_cluster.specs.Close.{AreAll, holders}
 use Rattle.cops_core.specs.World.{Setting, IsSetting}

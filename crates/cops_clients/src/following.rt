@@ -11,7 +11,8 @@ use std::io::Write;
 use std::sync::Wait;
 
 /// Writes the records of what clients see as they arrive, until the clients are joined, for at most the state's number
-/// of turns.
+/// of turns. A turn writes the records that arrived since the last one, and rests if there are none. If memory for the
+/// copies runs out, the next turn tries again.
 pub(crate) fn follow<R: Wait, W: Write>(
     rt: &R,
     state: &RunState,
@@ -28,38 +29,22 @@ pub(crate) fn follow<R: Wait, W: Write>(
         if state.are_clients_joined() {
             break;
         }
-        live = match turn(rt, state, live) {
+        let tail = match state.cluster().records_from(rt, live.len()) {
+            Ok(tail) => tail,
+            Err(_) => {
+                state.rest(rt);
+                continue;
+            }
+        };
+        if tail.records().is_empty() {
+            state.rest(rt);
+        }
+        live = match add(live, &tail) {
             Ok(live) => live,
             Err(unwritten) => return Err(unwritten),
         };
     }
     Ok(live)
-}
-
-/// Writes the records that arrived since the last turn, and rests if there are none. If memory for the copies runs out,
-/// the next turn tries again.
-fn turn<R: Wait, W: Write>(
-    rt: &R,
-    state: &RunState,
-    live: LiveTrace<W>,
-) -> Result<LiveTrace<W>, Unwritten<W>>
-    requires { IsLive W.contents live }
-    ensures begun { IfOk result (λ l. l.begun ≡ live.begun) }
-    ensures live { IfOk result (IsLive W.contents) }
-    ensures cut { IfErr result (λ u. IsCutBy u.fault (W.contents (inner live.begun.value)) (W.contents (inner u.writer))) }
-    ensures heard { IfErr result (λ u. IsHeardBy u.fault (failures live.begun.value) (failures u.writer)) }
-{
-    let tail = match state.cluster().records_from(rt, live.len()) {
-        Ok(tail) => tail,
-        Err(_) => {
-            state.rest(rt);
-            return Ok(live);
-        }
-    };
-    if tail.records().is_empty() {
-        state.rest(rt);
-    }
-    add(live, &tail)
 }
 
 /// Writes the next records, each once and in order. Stops before the first that may not come next, because its client

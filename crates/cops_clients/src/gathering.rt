@@ -22,7 +22,7 @@ pub(crate) struct Gathered {
 }
 
 impl Gathered {
-    ghost use Rattle.std.specs.Prelude.{◌≡◌, ◌⊎◌, ◌↔◌, ℕ, Err, [], ◌∷◌, ◌++◌, All, IfOk, IsErrOf, IsTrue, OnOk, map};
+    ghost use Rattle.std.specs.Prelude.{◌≡◌, ◌⊎◌, ◌↔◌, Err, [], ◌∷◌, ◌++◌, All, IfOk, IsErrOf, IsTrue, OnOk, map};
     ghost use Rattle.cops_clients.specs.Gates.{MayHold};
     ghost use Rattle.cops_cluster.specs.Close.{holders};
 

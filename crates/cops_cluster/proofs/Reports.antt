@@ -22,7 +22,7 @@ use Rattle.cops_cluster.specs.declared.fault.Stop.TheVariants.{Refused, GateHeld
 use Rattle.cops_cluster.specs.declared.stepping.NodeReply.{NodeReply}
 use Rattle.cops_cluster.specs.Shares.{Adds, AddsEntry, AddsAtMostOne, is_of_node, is_refusal_of_node}
 use Rattle.cops_cluster.specs.Cluster.{IsStop, write_event}
-use Rattle.cops_cluster.specs.Replies.{IsReplyIn, IsReplyOf}
+use Rattle.cops_cluster.specs.Replies.{IsReplyOf, reply_of}
 use Rattle.cops_cluster.specs.Outcomes.{IsGetOutcome, IsNodeAnswer, IsOutOfMemory, IsWriteOutcome, StopsWith}
 
 -- a step of this node, whose number does not change and whose outcome is one of a node's own
@@ -44,10 +44,6 @@ settle_step n (Some w) = if_step n _ _ _ (refl, refl) (refl, refl)
 found_of_node : (content : Option (List ℕ)) (version : ℕ) → is_of_node (found content version) ≡ true
 found_of_node None version = refl
 found_of_node (Some value) version = refl
-
-written_of_node : (content : Option (List ℕ)) (version : ℕ) → is_of_node (written content version) ≡ true
-written_of_node None version = refl
-written_of_node (Some value) version = refl
 
 get_step : (n : Node) (o : Option Stored) → IsStepOf n (answer o, n)
 get_step n None = (refl, refl)
@@ -78,17 +74,15 @@ module _ (before after : List Made) (node : ℕ) (event : NodeEvent) where
   IsKept (Err (Refused code)) = (after ≡ before) × (is_refusal_of_node code ≡ false)
   IsKept (Err StoppedThere) = after ≡ before
 
-  kept_stop : (may_hold : Point → Type 0) (at client : ℕ) (stop same : Stop) → same ≡ stop → after ≡ before → IsStop may_hold at client stop → IsKept (Err same)
-  kept_stop may_hold at client (Refused code) same e none other = subst (λ (s : Stop). IsKept (Err s)) (sym e) (none, other)
-  kept_stop may_hold at client StoppedThere same e none other = subst (λ (s : Stop). IsKept (Err s)) (sym e) none
+  kept_stop : (may_hold : Point → Type 0) (at client : ℕ) (stop : Stop) → after ≡ before → IsStop may_hold at client stop → IsKept (Err stop)
+  kept_stop may_hold at client (Refused code) none other = (none, other)
+  kept_stop may_hold at client StoppedThere none other = none
 
   pub reply_kept : {X : Type 0} (may_hold : Point → Type 0) (at client : ℕ) (answered : Result (NodeReply × X) Stop) (reply : Result NodeReply Stop)
       → IfOk answered (λ t. AddsEntry before after node event t.0.outcome) → IfOk answered (λ t. is_of_node t.0.outcome ≡ true)
-      → OnErr answered (after ≡ before) → IfErr answered (IsStop may_hold at client) → IsReplyIn answered reply → IsKept reply
-  reply_kept may_hold at client (Ok t) (Ok r) adds own none stop same = subst (λ (x : NodeReply). IsKept (Ok x)) (sym same) (adds, own)
-  reply_kept may_hold at client (Ok t) (Err s) adds own none stop same = absurd same
-  reply_kept may_hold at client (Err s) (Ok r) adds own none stop same = absurd same
-  reply_kept may_hold at client (Err s) (Err t) adds own none stop same = kept_stop may_hold at client s t same none stop
+      → OnErr answered (after ≡ before) → IfErr answered (IsStop may_hold at client) → reply ≡ reply_of answered → IsKept reply
+  reply_kept may_hold at client (Ok t) reply adds own none stop same = subst IsKept (sym same) (adds, own)
+  reply_kept may_hold at client (Err s) reply adds own none stop same = subst IsKept (sym same) (kept_stop may_hold at client s none stop)
 
   -- the outcome that the caller gets is that of the entry which its share gained
   pub reported_adds : (reply : Result NodeReply Stop) (result : Result Outcome GateHeld) → IsKept reply → IfOk result (IsReplyOf reply) → IfOk result (λ out. Adds before after node event out)
@@ -104,16 +98,19 @@ module _ (before after : List Made) (node : ℕ) (event : NodeEvent) where
   most_adds (Err (Refused code)) kept = inl kept.0
   most_adds (Err StoppedThere) kept = inl kept
 
+-- what the caller gets for a reply, it gets for an equal reply
+pub reported_of : (is reply : Result NodeReply Stop) (out : Outcome) → reply ≡ is → IsReplyOf reply out → IsReplyOf is out
+reported_of is reply out same reported = subst (λ (r : Result NodeReply Stop). IsReplyOf r out) same reported
+
 -- the client's context is the one that follows from the outcome which the caller gets
 pub reported_context : {X : Type 0} (after : Outcome → List Dep) (pairs new : List Dep) (answered : Result (NodeReply × X) Stop) (reply : Result NodeReply Stop) (result : Result Outcome GateHeld)
-    → ((code : Refusal) → after (RefusedWith code) ≡ pairs) → IfOk answered (λ a. new ≡ after a.0.outcome) → OnErr answered (new ≡ pairs) → IsReplyIn answered reply
+    → ((code : Refusal) → after (RefusedWith code) ≡ pairs) → IfOk answered (λ a. new ≡ after a.0.outcome) → OnErr answered (new ≡ pairs) → reply ≡ reply_of answered
     → IfOk result (IsReplyOf reply) → IfOk result (λ out. new ≡ after out)
 reported_context after pairs new answered reply (Err e) refused is none same reported = tt
-reported_context after pairs new (Ok a) (Ok r) (Ok out) refused is none same reported = is ∙ ap after (sym (reported ∙ ap (λ (x : NodeReply). x.outcome) same))
-reported_context after pairs new (Ok a) (Err s) (Ok out) refused is none same reported = absurd same
-reported_context after pairs new (Err s) (Ok r) (Ok out) refused is none same reported = absurd same
-reported_context after pairs new (Err s) (Err (Refused code)) (Ok out) refused is none same reported = none ∙ sym (refused code) ∙ ap after (sym reported)
-reported_context after pairs new (Err s) (Err StoppedThere) (Ok out) refused is none same reported = absurd reported
+reported_context after pairs new (Ok a) reply (Ok out) refused is none same reported = is ∙ ap after (sym (reported_of (Ok a.0) reply out same reported))
+reported_context after pairs new (Err (Refused code)) reply (Ok out) refused is none same reported =
+    none ∙ sym (refused code) ∙ ap after (sym (reported_of (Err (Refused code)) reply out same reported))
+reported_context after pairs new (Err StoppedThere) reply (Ok out) refused is none same reported = absurd (reported_of (Err StoppedThere) reply out same reported)
 
 -- `AddsEntry` with equal arguments replaced
 pub adds_same : (a b c d : List Made) (m n : ℕ) (e f : NodeEvent) (out : Outcome) → a ≡ b → c ≡ d → m ≡ n → e ≡ f → AddsEntry a c m e out → AddsEntry b d n f out
@@ -181,20 +178,16 @@ stop_written content stop out want reported = subst (IsWriteOutcome content) (sy
 
 -- the outcome that the caller of a write gets is one of a write's outcomes
 pub reported_written : {X : Type 0} (content : Option (List ℕ)) (answered : Result (NodeReply × X) Stop) (reply : Result NodeReply Stop) (result : Result Outcome GateHeld)
-    → IfOk answered (λ a. IsWriteOutcome content a.0.outcome) → IfErr answered (StopsWith IsOutOfMemory) → IsReplyIn answered reply → IfOk result (IsReplyOf reply)
+    → IfOk answered (λ a. IsWriteOutcome content a.0.outcome) → IfErr answered (StopsWith IsOutOfMemory) → reply ≡ reply_of answered → IfOk result (IsReplyOf reply)
     → IfOk result (IsWriteOutcome content)
 reported_written content answered reply (Err e) is want same reported = tt
-reported_written content (Ok a) (Ok r) (Ok out) is want same reported = subst (IsWriteOutcome content) (sym (reported ∙ ap (λ (x : NodeReply). x.outcome) same)) is
-reported_written content (Ok a) (Err s) (Ok out) is want same reported = absurd same
-reported_written content (Err s) (Ok r) (Ok out) is want same reported = absurd same
-reported_written content (Err s) (Err t) (Ok out) is want same reported = stop_written content s out want (subst (λ (x : Stop). IsReplyOf (Err x) out) same reported)
+reported_written content (Ok a) reply (Ok out) is want same reported = subst (IsWriteOutcome content) (sym (reported_of (Ok a.0) reply out same reported)) is
+reported_written content (Err s) reply (Ok out) is want same reported = stop_written content s out want (reported_of (Err s) reply out same reported)
 
 -- the outcome that the caller gets is some node's answer, or out of memory
 pub reported_answers : {X : Type 0} (event : NodeEvent) (answered : Result (NodeReply × X) Stop) (reply : Result NodeReply Stop) (result : Result Outcome GateHeld)
-    → IfOk answered (λ t. IsNodeAnswer event t.0.outcome) → IfErr answered (StopsWith IsOutOfMemory) → IsReplyIn answered reply → IfOk result (IsReplyOf reply)
+    → IfOk answered (λ t. IsNodeAnswer event t.0.outcome) → IfErr answered (StopsWith IsOutOfMemory) → reply ≡ reply_of answered → IfOk result (IsReplyOf reply)
     → IfOk result (λ out. IsNodeAnswer event out ⊎ IsOutOfMemory out)
 reported_answers event answered reply (Err e) is want same reported = tt
-reported_answers event (Ok t) (Ok r) (Ok out) is want same reported = inl (subst (λ (o : Outcome). IsNodeAnswer event o) (sym (reported ∙ ap (λ (x : NodeReply). x.outcome) same)) is)
-reported_answers event (Ok t) (Err s) (Ok out) is want same reported = absurd same
-reported_answers event (Err s) (Ok r) (Ok out) is want same reported = absurd same
-reported_answers event (Err s) (Err t) (Ok out) is want same reported = inr (out_of_memory_of s out want (subst (λ (x : Stop). IsReplyOf (Err x) out) same reported))
+reported_answers event (Ok t) reply (Ok out) is want same reported = inl (subst (λ (o : Outcome). IsNodeAnswer event o) (sym (reported_of (Ok t.0) reply out same reported)) is)
+reported_answers event (Err s) reply (Ok out) is want same reported = inr (out_of_memory_of s out want (reported_of (Err s) reply out same reported))

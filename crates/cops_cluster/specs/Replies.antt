@@ -21,7 +21,6 @@ WasHeld may_hold client (Err (Refused refused)) = ⊥
 WasHeld may_hold client (Err GateHeld) = Unit {0}
 
 -- the reply without what is returned with it
-abbrev pub IsReplyIn : {X : Type 0} → Result (NodeReply × X) Stop → Result NodeReply Stop → Type 0
-IsReplyIn (Ok answer) (Ok reply) = reply ≡ answer.0
-IsReplyIn (Err stop) (Err same) = same ≡ stop
-IsReplyIn _ _ = ⊥
+abbrev pub reply_of : {X : Type 0} → Result (NodeReply × X) Stop → Result NodeReply Stop
+reply_of (Ok answer) = Ok answer.0
+reply_of (Err stop) = Err stop

@@ -1,14 +1,11 @@
 //! Closing a cluster: comparing the nodes' logs with what the callers were answered.
-ghost use Rattle.std.specs.Prelude.{◌≡◌, ◌≤◌, ◌<◌, ◌+◌, ◌↔◌, ◌||◌, ℕ, true, length, vec_len, vec_capacity, IfOk, IfNone, IfSome, IsTrue, slice_index_or};
-ghost use Rattle.std.specs.List.{list_any};
-ghost use Rattle.std.specs.List.Sorted.{IsPermutation};
+ghost use Rattle.std.specs.Prelude.{◌≡◌, ◌≤◌, ◌<◌, ◌+◌, ◌↔◌, ◌||◌, ℕ, true, length, vec_len, vec_capacity, IfOk, IsTrue, slice_index_or};
 ghost use Rattle.cops_types.specs.declared.limits.TheConstants.{NODES, PLACES};
 ghost use Rattle.cops_cluster.specs.declared.share.Share.{Share};
-ghost use Rattle.cops_cluster.specs.Close.{AllReplay, AreAll, IsReplay, entries_at, is_seat, made_by, made_in, number_of, reported};
-ghost use Rattle.cops_cluster.specs.Differences.{IsLeastDifference};
+ghost use Rattle.cops_cluster.specs.Close.{AllReplay, AreAll, IsReplay, entries_at, is_seat, made_by, made_in, number_of};
 
 use crate::cluster::Cluster;
-use crate::differing::difference;
+use crate::differing::difference_where;
 use crate::share::{Holder, Share};
 use cops_node::{Book, Entry};
 use cops_record::IntoTraceFault;
@@ -188,27 +185,6 @@ fn not_kept(lists: Vec<Vec<Entry>>, ticket: u64) -> CloseFault
 {
     drop(lists);
     CloseFault::NotKept { ticket }
-}
-
-/// The least ticket at which the entries of the books and of the shares differ, if `compares` is set; otherwise `None`.
-fn difference_where(
-    compares: bool,
-    alloc: Global,
-    places: usize,
-    books: &[Book],
-    shares: &[Share],
-) -> Result<Option<u64>, AllocError>
-    requires places { 0 < places × places ≤ PLACES }
-    requires few { length books.now ≤ NODES }
-    ensures some { IfOk result (λ o. IfSome o (IsLeastDifference (made_by places 0 books.now) (reported shares.now))) }
-    ensures none { IfOk result (λ o. IfNone o (IsTrue compares → IsPermutation (made_by places 0 books.now) (reported shares.now))) }
-    ensures compared { IfOk result (λ o. IfSome o (λ _. IsTrue compares)) }
-{
-    if compares {
-        difference(alloc, places, books, shares)
-    } else {
-        Ok(None)
-    }
 }
 
 /// Empty lists with room for what each node returns.

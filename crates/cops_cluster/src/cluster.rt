@@ -1,5 +1,5 @@
 //! The nodes, each under a lock of its own.
-ghost use Rattle.std.specs.Prelude.{◌≡◌, ◌≤◌, ◌<◌, ◌+◌, ◌*◌, ◌↔◌, All, IfOk, IsTrue, OnOk, [], length, vec_len};
+ghost use Rattle.std.specs.Prelude.{◌≡◌, ◌≤◌, ◌<◌, ◌+◌, ◌*◌, ◌↔◌, IfOk, OnOk, [], length, vec_len};
 ghost use Rattle.cops_types.specs.declared.limits.TheConstants.{MAX_CLIENTS, MAX_DCS, PLACES};
 ghost use Rattle.cops_cluster.specs.Opening.{AreClientsAt, AreOfFormat, AreReceivers};
 
@@ -42,7 +42,7 @@ pub struct Opened {
 }
 
 impl Cluster {
-    ghost use Rattle.std.specs.Prelude.{◌≡◌, ◌<◌, ◌≤◌, ◌+◌, ◌*◌, ◌↔◌, All, length, vec_len, IfOk, OnErr, IsErrOf, IsSome, IfSome, IfNone};
+    ghost use Rattle.std.specs.Prelude.{◌≡◌, ◌<◌, ◌≤◌, ◌+◌, ◌*◌, ◌↔◌, length, vec_len, IfOk, OnErr, IsErrOf, IsSome, IfSome, IfNone};
     ghost use Rattle.cops_types.specs.declared.limits.TheConstants.{MAX_CLOCK, MAX_DCS, PLACES};
     ghost use Rattle.cops_place.specs.Clients.{AreClients};
     ghost use Rattle.cops_place.specs.Place.{primary};

@@ -1,12 +1,12 @@
 //! Comparing the entries of books with those of shares.
-ghost use Rattle.std.specs.Prelude.{◌≡◌, ◌≤◌, ◌<◌, ◌+◌, ◌++◌, ◌∷◌, [], ◌↔◌, length, map, take, drop, IfOk, OnOk, IsFalse, IsTrue, slice_index_or};
+ghost use Rattle.std.specs.Prelude.{◌≡◌, ◌≤◌, ◌<◌, ◌+◌, ◌++◌, length, map, take, drop, IfOk, IfSome, IfNone, OnOk, IsFalse, IsTrue, slice_index_or};
 ghost use Rattle.std.specs.List.{Contains};
 ghost use Rattle.std.specs.List.Sorted.{IsNonDecreasingBy, IsPermutation};
 ghost use Rattle.cops_types.specs.declared.limits.TheConstants.{NODES, PLACES};
 ghost use Rattle.cops_cluster.specs.Close.{entries_at, made_by, made_in, number_of, reported};
 ghost use Rattle.cops_cluster.specs.Shares.{made};
 ghost use Rattle.cops_cluster.specs.declared.logged.LoggedEntry.{LoggedEntry};
-ghost use Rattle.cops_cluster.specs.Differences.{Compares};
+ghost use Rattle.cops_cluster.specs.Differences.{Compares, IsLeastDifference};
 ghost use Rattle.cops_cluster.specs.Differing.{shown, ticket_of};
 
 use crate::closing::number_at;
@@ -15,9 +15,10 @@ use crate::share::Share;
 use cops_node::{Book, Entry};
 use std::alloc::{AllocError, Global};
 
-/// The least ticket at which the entries of the books and of the shares differ; `None` where both have the same
-/// entries, as multisets.
-pub(crate) fn difference(
+/// The least ticket at which the entries of the books and of the shares differ, if `compares` is set. `None` if it is
+/// not, and where both have the same entries, as multisets.
+pub(crate) fn difference_where(
+    compares: bool,
     alloc: Global,
     places: usize,
     books: &[Book],
@@ -25,9 +26,16 @@ pub(crate) fn difference(
 ) -> Result<Option<u64>, AllocError>
     requires places { 0 < places × places ≤ PLACES }
     requires few { length books.now ≤ NODES }
-    ensures { IfOk result (Compares (made_by places 0 books.now) (reported shares.now)) }
+    ensures some { IfOk result (λ o. IfSome o (IsLeastDifference (made_by places 0 books.now) (reported shares.now))) }
+    ensures none { IfOk result (λ o. IfNone o (IsTrue compares → IsPermutation (made_by places 0 books.now) (reported shares.now))) }
+    ensures compared { IfOk result (λ o. IfSome o (λ _. IsTrue compares)) }
 {
-    compared(kept_in(alloc, places, books)?, reported_in(alloc, shares)?)
+    if !compares {
+        return Ok(None);
+    }
+    let kept = kept_in(alloc, places, books)?;
+    let heard = reported_in(alloc, shares)?;
+    compared(kept, heard)
 }
 
 /// The least ticket at which the entries of the lists and of the shares differ; `None` where both have the same

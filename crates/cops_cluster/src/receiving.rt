@@ -2,7 +2,7 @@
 //! settlements.
 ghost use Rattle.std.specs.Prelude.{◌≡◌};
 ghost use Rattle.cops_cluster.specs.Receiving.{IsAskedOf, outcome_of};
-ghost use Rattle.cops_cluster.specs.Replies.{IsReplyIn};
+ghost use Rattle.cops_cluster.specs.Replies.{reply_of};
 
 use crate::cluster::Cluster;
 use crate::fault::Stop;
@@ -279,9 +279,9 @@ impl Cluster {
             return Err(Stop::Refused(Refusal::Memory));
         }
         let mut book = self.lock_of(spot).lock(rt);
-        let reported = self.marked(rt, gate, spot, &mut book, version, dep, yes)?;
+        let recorded = self.marked(rt, gate, spot, &mut book, version, dep, yes)?;
         drop(book);
-        Ok(gained(share, spot.number(), reported))
+        Ok(gained(share, spot.number(), recorded))
     }
 
     /// A mark at a node whose lock is held. Refused with `NoYes` exactly where the answer is not for the dependency
@@ -301,7 +301,7 @@ impl Cluster {
         ensures stops { IfErr result (StopsWith (IsUnaskedMark yes.now spot.dc version dep)) }
         ensures stepped { IfOk result (λ t. node_step book.old.node (Mark version dep) ≡ (t.outcome, book.new.node)) }
         ensures entered { IfOk result (λ t. book.new.entries ≡ book.old.entries ++ t.entry ∷ []) }
-        ensures reported { IfOk result (λ t. (t.seen ≡ t.outcome) × ((ticket : ℕ) × (t.entry ≡ entry ticket (Mark version dep) t.outcome))) }
+        ensures copies { IfOk result (λ t. (t.seen ≡ t.outcome) × ((ticket : ℕ) × (t.entry ≡ entry ticket (Mark version dep) t.outcome))) }
         ensures answers { IfOk result (λ t. is_of_node t.outcome ≡ true) }
         ensures none { OnErr result (book.new ≡ book.old) }
         ensures stop { IfErr result (IsStop (G.may_hold gate.now) (node_number spot.dc spot.place) RECEIVER) }
@@ -327,7 +327,7 @@ fn asked_of(dc: u8, key: Key, version: Version, outcome: Outcome) -> Asked
 
 /// The node's reply, without the copy of its outcome.
 fn reply_in(answered: Result<(NodeReply, Outcome), Stop>) -> Result<NodeReply, Stop>
-    ensures { IsReplyIn answered result }
+    ensures { result ≡ reply_of answered }
 {
     match answered {
         Ok((reply, seen)) => {

@@ -1,5 +1,5 @@
 //! Nodes by data centre and place.
-ghost use Rattle.std.specs.Prelude.{◌≡◌, ◌<◌};
+ghost use Rattle.std.specs.Prelude.{◌≡◌};
 ghost use Rattle.cops_types.specs.NodeNumber.{node_number};
 
 use cops_types::node_number;
@@ -12,7 +12,7 @@ pub(crate) struct Spot {
 }
 
 impl Spot {
-    ghost use Rattle.std.specs.Prelude.{◌≡◌, ◌<◌};
+    ghost use Rattle.std.specs.Prelude.{◌≡◌};
     ghost use Rattle.cops_types.specs.NodeNumber.{node_number};
 
     /// The node's number.

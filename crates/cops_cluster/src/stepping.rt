@@ -29,83 +29,40 @@ pub(crate) struct NodeReply {
     pub(crate) node: u16,
 }
 
-/// The copies made for a client's write: its dependencies, and the key and content that are kept until the node
-/// answers.
+/// What is kept of a client's operation until the node answers: the key for the client's context, and the key and
+/// content for the operation that it saw. Only a put has a content.
 #[derive(Drop)]
-struct WriteCopies {
-    deps: Deps,
-    kept_back: KeptOfWrite,
-}
-
-/// What is kept of a write until the node answers: the key for the client's context, and the key and content for the
-/// operation that it saw. A write without a content is a deletion.
-#[derive(Drop)]
-struct KeptOfWrite {
+struct Kept {
     pair_key: Key,
     key: Key,
     content: Option<Value>,
 }
 
-/// The event that a write sends to the node, and what is kept until the node answers.
+/// The event that a client's operation sends to the node, and what is kept until the node answers.
 #[derive(Drop)]
-struct WriteRequest {
+struct Request {
     event: NodeEvent,
-    kept_back: KeptOfWrite,
+    kept: Kept,
 }
 
-/// What is kept of a get until the node answers: the key for the client's context, and the key for the operation that
-/// it saw.
-#[derive(Drop)]
-struct KeptOfGet {
-    pair_key: Key,
-    key: Key,
-}
-
-/// The event that a get sends to the node, and what is kept until the node answers.
-#[derive(Drop)]
-struct GetRequest {
-    event: NodeEvent,
-    kept_back: KeptOfGet,
-}
-
-fn write_copies(client: &Client, key: &Key, content: Option<&Value>) -> Result<WriteCopies, Memory>
-    ensures deps { IfOk result (λ c. c.deps ≡ client.now.context.pairs) }
-    ensures logged { IfOk result (λ c. (c.kept_back.pair_key ≡ key.now) × (c.kept_back.key ≡ key.now) × (c.kept_back.content ≡ option_copied content.entry)) }
+fn kept_of(key: &Key, content: Option<&Value>) -> Result<Kept, AllocError>
+    ensures { IfOk result (λ kept. (kept.pair_key ≡ key.now) × (kept.key ≡ key.now) × (kept.content ≡ option_copied content.entry)) }
 {
-    let deps = client.context.deps()?;
-    match kept_of_write(key, content) {
-        Ok(kept_back) => Ok(WriteCopies { deps, kept_back }),
-        Err(fault) => {
-            drop(deps);
-            Err(Memory::from(fault))
-        }
-    }
-}
-
-fn kept_of_write(key: &Key, content: Option<&Value>) -> Result<KeptOfWrite, AllocError>
-    ensures { IfOk result (λ kept_back. (kept_back.pair_key ≡ key.now) × (kept_back.key ≡ key.now) × (kept_back.content ≡ option_copied content.entry)) }
-{
-    Ok(KeptOfWrite {
+    Ok(Kept {
         pair_key: key.clone()?,
         key: key.clone()?,
         content: content_copy(content)?,
     })
 }
 
-fn write_request(client: &Client, key: Key, content: Option<Value>) -> Result<WriteRequest, Memory>
+fn write_request(client: &Client, key: Key, content: Option<Value>) -> Result<Request, Memory>
     ensures event { IfOk result (λ t. t.event ≡ write_event client.now.number key content client.now.context.pairs) }
-    ensures logged { IfOk result (λ t. (t.kept_back.pair_key ≡ key) × (t.kept_back.key ≡ key) × (t.kept_back.content ≡ content)) }
+    ensures kept { IfOk result (λ t. (t.kept.pair_key ≡ key) × (t.kept.key ≡ key) × (t.kept.content ≡ content)) }
 {
-    let WriteCopies { deps, kept_back } = match write_copies(client, &key, content.as_ref()) {
-        Ok(copies) => copies,
-        Err(fault) => {
-            drop(key);
-            drop(content);
-            return Err(fault);
-        }
-    };
+    let deps = client.context.deps()?;
+    let kept = kept_of(&key, content.as_ref())?;
     let event = event_of(client.number, key, content, deps);
-    Ok(WriteRequest { event, kept_back })
+    Ok(Request { event, kept })
 }
 
 /// The event for a client's write: a put of the content, or a deletion where there is none.
@@ -123,49 +80,19 @@ fn event_of(client: u16, key: Key, content: Option<Value>, deps: Deps) -> NodeEv
     }
 }
 
-/// The operation that a client saw when its write was given a version.
-fn written(key: Key, content: Option<Value>, version: Version) -> Op
-    ensures { operation_of result ≡ write key content version }
-{
-    match content {
-        Some(value) => Op::Put {
-            key,
-            value,
-            version,
-        },
-        None => Op::Del { key, version },
-    }
-}
-
-fn kept_of_get(key: &Key) -> Result<KeptOfGet, AllocError>
-    ensures { IfOk result (λ kept_back. (kept_back.pair_key ≡ key.now) × (kept_back.key ≡ key.now)) }
-{
-    Ok(KeptOfGet {
-        pair_key: key.clone()?,
-        key: key.clone()?,
-    })
-}
-
-fn get_request(client: u16, key: Key) -> Result<GetRequest, Memory>
+fn get_request(client: u16, key: Key) -> Result<Request, Memory>
     ensures event { IfOk result (λ t. t.event ≡ Get client key) }
-    ensures logged { IfOk result (λ t. (t.kept_back.pair_key ≡ key) × (t.kept_back.key ≡ key)) }
+    ensures kept { IfOk result (λ t. (t.kept.pair_key ≡ key) × (t.kept.key ≡ key)) }
 {
-    match kept_of_get(&key) {
-        Ok(kept_back) => {
-            let event = NodeEvent::Get { client, key };
-            Ok(GetRequest { event, kept_back })
-        }
-        Err(fault) => {
-            drop(key);
-            Err(Memory::from(fault))
-        }
-    }
+    let kept = kept_of(&key, None)?;
+    let event = NodeEvent::Get { client, key };
+    Ok(Request { event, kept })
 }
 
 impl Cluster {
-    ghost use Rattle.std.specs.Prelude.{◌≡◌, ◌<◌, ◌≤◌, ◌↔◌, ◌++◌, ◌⊎◌, [], ◌∷◌, ℕ, true, false, length, None, option_copied, option_map, IfOk, IfErr, IsErrOf, IsTrue, Ok, Err, OnOk, OnErr};
+    ghost use Rattle.std.specs.Prelude.{◌≡◌, ◌<◌, ◌≤◌, ◌↔◌, ◌++◌, [], ◌∷◌, ℕ, true, false, length, None, option_copied, option_map, IfOk, IfErr, IsErrOf, IsTrue, Ok, Err, OnOk, OnErr};
     ghost use Rattle.cops_types.specs.declared.refusal.Refusal.{Refusal};
-    ghost use Rattle.cops_types.specs.declared.refusal.Refusal.TheVariants.{ContextFull, NotInFormat, UnknownClient, Memory as OutOfMemory};
+    ghost use Rattle.cops_types.specs.declared.refusal.Refusal.TheVariants.{ContextFull, NotInFormat, UnknownClient};
     ghost use Rattle.cops_cluster.specs.declared.fault.Stop.TheVariants.{Refused};
     ghost use Rattle.cops_types.specs.Format.{Fits, most_deps};
     ghost use Rattle.cops_types.specs.Operations.{operation_of};
@@ -178,7 +105,7 @@ impl Cluster {
     ghost use Rattle.cops_cluster.specs.Shares.{Adds, AddsAtMostOne, AddsEntry, is_refusal_of_node, is_of_node};
     ghost use Rattle.cops_cluster.specs.Cluster.{IsNode, IsSameClient, IsStop, MayHoldStep, after_get, after_write, get_seen, node_of, write_event, write_seen};
     ghost use Rattle.cops_cluster.specs.Outcomes.{IsDelOutcome, IsGetOutcome, IsNodeAnswer, IsPutOutcome, IsUnaskedGet, IsUnaskedWrite, IsUnknown, IsOutOfMemory, IsWriteOutcome, StopsWith};
-    ghost use Rattle.cops_cluster.specs.Replies.{IsReplyIn};
+    ghost use Rattle.cops_cluster.specs.Replies.{reply_of};
 
     /// Puts a value for a client.
     ///
@@ -366,15 +293,15 @@ impl Cluster {
             unreachable!()
         };
         let number = client.number;
-        let WriteRequest { event, kept_back } = write_request(client, key, content)?;
+        let Request { event, kept } = write_request(client, key, content)?;
         match self.step(rt, &mut client.share, gate, number, spot, event) {
             Ok((reply, seen)) => {
-                let op = client.wrote(kept_back, &seen);
+                let op = client.wrote(kept, &seen);
                 drop(seen);
                 Ok((reply, op))
             }
             Err(stop) => {
-                drop(kept_back);
+                drop(kept);
                 Err(stop)
             }
         }
@@ -412,14 +339,14 @@ impl Cluster {
             }
         };
         let number = client.number;
-        let GetRequest { event, kept_back } = get_request(number, key)?;
+        let Request { event, kept } = get_request(number, key)?;
         match self.step(rt, &mut client.share, gate, number, spot, event) {
             Ok((reply, seen)) => {
-                let op = client.saw(kept_back.pair_key, kept_back.key, seen);
+                let op = client.saw(kept.pair_key, kept.key, seen);
                 Ok((reply, op))
             }
             Err(stop) => {
-                drop(kept_back);
+                drop(kept);
                 Err(stop)
             }
         }
@@ -456,7 +383,7 @@ impl Cluster {
         slot: Slot,
         answered: Result<(NodeReply, Option<Op>), Stop>,
     ) -> Result<NodeReply, Stop>
-        ensures { IsReplyIn answered result }
+        ensures { result ≡ reply_of answered }
     {
         match answered {
             Ok((reply, op)) => {
@@ -500,9 +427,9 @@ impl Cluster {
             return Err(Stop::Refused(Refusal::Memory));
         }
         let mut book = self.lock_of(spot).lock(rt);
-        let reported = self.asked(rt, gate, client, spot, &mut book, event)?;
+        let recorded = self.asked(rt, gate, client, spot, &mut book, event)?;
         drop(book);
-        Ok(gained(share, spot.number(), reported))
+        Ok(gained(share, spot.number(), recorded))
     }
 
     /// Runs one step of a node whose lock is held, and adds the entry to its log.
@@ -517,7 +444,7 @@ impl Cluster {
     ) -> Result<Recorded, Stop>
         ensures stepped { IfOk result (λ t. node_step book.old.node event ≡ (t.outcome, book.new.node)) }
         ensures entered { IfOk result (λ t. book.new.entries ≡ book.old.entries ++ t.entry ∷ []) }
-        ensures reported { IfOk result (λ t. (t.seen ≡ t.outcome) × ((ticket : ℕ) × (t.entry ≡ entry ticket event t.outcome))) }
+        ensures copies { IfOk result (λ t. (t.seen ≡ t.outcome) × ((ticket : ℕ) × (t.entry ≡ entry ticket event t.outcome))) }
         ensures answers { IfOk result (λ t. is_of_node t.outcome ≡ true) }
         ensures none { OnErr result (book.new ≡ book.old) }
         ensures stops { IfErr result (StopsWith IsOutOfMemory) }
@@ -530,7 +457,7 @@ impl Cluster {
         }
         let ticket = self.tickets.fetch_add(1, Ordering::SeqCst);
         match book.step_recorded(ticket, event) {
-            Ok(reported) => Ok(reported),
+            Ok(recorded) => Ok(recorded),
             Err(_) => Err(Stop::Refused(Refusal::Memory)),
         }
     }
@@ -545,26 +472,26 @@ impl Client {
 
     /// Handles the answer to the client's write. Returns the operation that it saw; after a version was given, the
     /// context has the write's pair alone.
-    fn wrote(&mut self, kept_back: KeptOfWrite, answer: &Outcome) -> Option<Op>
-        requires { kept_back.pair_key ≡ kept_back.key }
-        ensures context { self.new.context.pairs ≡ after_write self.old.context.pairs kept_back.key answer.now }
-        ensures seen { option_map operation_of result ≡ write_seen kept_back.key kept_back.content answer.now }
+    fn wrote(&mut self, kept: Kept, answer: &Outcome) -> Option<Op>
+        requires { kept.pair_key ≡ kept.key }
+        ensures context { self.new.context.pairs ≡ after_write self.old.context.pairs kept.key answer.now }
+        ensures seen { option_map operation_of result ≡ write_seen kept.key kept.content answer.now }
         ensures same { (self.new.number ≡ self.old.number) × (self.new.dc ≡ self.old.dc) × (self.new.share ≡ self.old.share) × (self.new.context.format ≡ self.old.context.format) }
     {
         let Some(version) = answer.version_given() else {
-            drop(kept_back);
+            drop(kept);
             return None;
         };
-        let KeptOfWrite {
+        let Kept {
             pair_key,
             key,
             content,
-        } = kept_back;
+        } = kept;
         self.context.replace(Dep {
             key: pair_key,
             version,
         });
-        Some(written(key, content, version))
+        Some(Op::write(key, content, version))
     }
 
     /// Handles the answer to the client's get. Returns the operation that it saw, and adds the pair that it returned to
@@ -608,18 +535,18 @@ impl Client {
 
 /// Adds to the share the entry of a step of the node with this number. Returns the node's reply, and a copy of its
 /// outcome.
-pub(crate) fn gained(share: &mut Share, node: u16, reported: Recorded) -> (NodeReply, Outcome)
+pub(crate) fn gained(share: &mut Share, node: u16, recorded: Recorded) -> (NodeReply, Outcome)
     requires { vec_len share.old.entries < vec_capacity share.old.entries }
     ensures owner { share.new.holder ≡ share.old.holder }
-    ensures entries { share.new.entries.items ≡ share.old.entries.items ++ made node reported.entry ∷ [] }
-    ensures reply { (result.0.outcome ≡ reported.outcome) × (result.0.node ≡ node) }
-    ensures copy { result.1 ≡ reported.seen }
+    ensures entries { share.new.entries.items ≡ share.old.entries.items ++ made node recorded.entry ∷ [] }
+    ensures reply { (result.0.outcome ≡ recorded.outcome) × (result.0.node ≡ node) }
+    ensures copy { result.1 ≡ recorded.seen }
 {
     let Recorded {
         outcome,
         seen,
         entry,
-    } = reported;
+    } = recorded;
     share.entries.push_reserved(Made { entry, node });
     (NodeReply { outcome, node }, seen)
 }

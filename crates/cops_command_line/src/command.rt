@@ -1,6 +1,6 @@
 //! The program's command and its subcommands.
 ghost use Rattle.std.specs.Prelude.{◌≡◌, IfOk, codes, false};
-ghost use Rattle.clap.specs.Words.{app_of, new_app, rule_of, with_rule, with_subcommand};
+ghost use Rattle.clap.specs.Words.{app_of, new_app, rule_of, with_rule};
 ghost use Rattle.clap.specs.declared.builder.command.Command.TheViews.{out-Command as fields_of};
 ghost use Rattle.cops_command_line.specs.Commands.{audit_app, cops_app, cops_top, convert_app, explain_app, import_app, judging_app, port_argument, positional, run_app, serve_app, show_app, tracing_app, versioned};
 

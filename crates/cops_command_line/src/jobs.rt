@@ -1,5 +1,5 @@
 //! The job of each subcommand.
-ghost use Rattle.std.specs.Prelude.{◌≡◌, IfNone, IfSome, codes};
+ghost use Rattle.std.specs.Prelude.{IfNone, IfSome, codes};
 ghost use Rattle.clap.specs.Words.{found_of, rows_of, subcommand_rows_of};
 ghost use Rattle.cops_command_line.specs.Line.{HasNoJob, HasNoJobIn, IsJobIn, IsJobOf};
 
@@ -38,57 +38,6 @@ fn explain_job<'a>(matches: &ArgMatches<'a>) -> Option<Job<'a>>
     })
 }
 
-fn show_job<'a>(matches: &ArgMatches<'a>) -> Option<Job<'a>>
-    ensures some { IfSome result (IsJobOf (codes "show") (rows_of (found_of matches.now))) }
-    ensures none { IfNone result (HasNoJob (codes "show") (rows_of (found_of matches.now))) }
-{
-    let trace = value(matches, "trace")?;
-    Some(Job::Show { trace })
-}
-
-fn import_job<'a>(matches: &ArgMatches<'a>) -> Option<Job<'a>>
-    ensures some { IfSome result (IsJobOf (codes "import") (rows_of (found_of matches.now))) }
-    ensures none { IfNone result (HasNoJob (codes "import") (rows_of (found_of matches.now))) }
-{
-    let lines = value(matches, "lines")?;
-    let trace = value(matches, "trace")?;
-    Some(Job::Import { lines, trace })
-}
-
-fn convert_job<'a>(matches: &ArgMatches<'a>) -> Option<Job<'a>>
-    ensures some { IfSome result (IsJobOf (codes "convert") (rows_of (found_of matches.now))) }
-    ensures none { IfNone result (HasNoJob (codes "convert") (rows_of (found_of matches.now))) }
-{
-    let trace = value(matches, "trace")?;
-    let new = value(matches, "new")?;
-    Some(Job::Convert { trace, new })
-}
-
-fn run_job<'a>(matches: &ArgMatches<'a>) -> Option<Job<'a>>
-    ensures some { IfSome result (IsJobOf (codes "run") (rows_of (found_of matches.now))) }
-    ensures none { IfNone result (HasNoJob (codes "run") (rows_of (found_of matches.now))) }
-{
-    let scenario = value(matches, "scenario")?;
-    let trace = value(matches, "trace")?;
-    Some(Job::Run { scenario, trace })
-}
-
-fn serve_job<'a>(matches: &ArgMatches<'a>) -> Option<Job<'a>>
-    ensures some { IfSome result (IsJobOf (codes "serve") (rows_of (found_of matches.now))) }
-    ensures none { IfNone result (HasNoJob (codes "serve") (rows_of (found_of matches.now))) }
-{
-    let port = port(matches)?;
-    let scenario = value(matches, "scenario")?;
-    let sessions = sessions(matches)?;
-    let idle = idle(matches)?;
-    Some(Job::Serve {
-        port,
-        scenario,
-        sessions,
-        idle,
-    })
-}
-
 fn job_of<'a>(name: &str, matches: &ArgMatches<'a>) -> Option<Job<'a>>
     ensures some { IfSome result (IsJobOf name.now (rows_of (found_of matches.now))) }
     ensures none { IfNone result (HasNoJob name.now (rows_of (found_of matches.now))) }
@@ -96,11 +45,27 @@ fn job_of<'a>(name: &str, matches: &ArgMatches<'a>) -> Option<Job<'a>>
     match name {
         "audit" => audit_job(matches),
         "explain" => explain_job(matches),
-        "show" => show_job(matches),
-        "import" => import_job(matches),
-        "convert" => convert_job(matches),
-        "run" => run_job(matches),
-        "serve" => serve_job(matches),
+        "show" => Some(Job::Show {
+            trace: value(matches, "trace")?,
+        }),
+        "import" => Some(Job::Import {
+            lines: value(matches, "lines")?,
+            trace: value(matches, "trace")?,
+        }),
+        "convert" => Some(Job::Convert {
+            trace: value(matches, "trace")?,
+            new: value(matches, "new")?,
+        }),
+        "run" => Some(Job::Run {
+            scenario: value(matches, "scenario")?,
+            trace: value(matches, "trace")?,
+        }),
+        "serve" => Some(Job::Serve {
+            port: port(matches)?,
+            scenario: value(matches, "scenario")?,
+            sessions: sessions(matches)?,
+            idle: idle(matches)?,
+        }),
         _ => None,
     }
 }

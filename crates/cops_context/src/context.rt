@@ -27,7 +27,7 @@ impl Model for Context {
 }
 
 impl Context {
-    ghost use Rattle.std.specs.Prelude.{◌≡◌, ◌≢◌, ◌↔◌, ◌<◌, ◌≤◌, length, List, [], ◌∷◌, true, false, nat_lt, IsTrue, IsOk, IfOk, IfErr, OnOk, OnErr, IsErrOf};
+    ghost use Rattle.std.specs.Prelude.{◌≡◌, ◌≢◌, ◌↔◌, ◌<◌, ◌≤◌, length, [], ◌∷◌, true, false, nat_lt, IsTrue, IsOk, IfOk, OnOk, OnErr, IsErrOf};
     ghost use Rattle.cops_context.specs.Context.{has_pair, with_pair};
     ghost use Rattle.cops_types.specs.Format.{most_deps};
     ghost use Rattle.cops_context.specs.Kept.{IsContext};

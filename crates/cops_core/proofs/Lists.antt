@@ -1,14 +1,13 @@
 -- Elements of lists, equality of pairs, and adding an element at the end.
-use Rattle.std.proofs.Common.{◌≡◌, ℕ, zero, suc, ◌<◌, ◌⊎◌, inl, inr, List, [], ◌∷◌, ◌++◌, Bool, true, false, cond, Some, length, set, Contains, slice_get, refl, sym, ap, ap₂, ◌∙◌, arith, ◌==◌, eqb-true, eq-eqb, replicate}
+use Rattle.std.proofs.Common.{◌≡◌, ℕ, zero, suc, ◌<◌, ◌⊎◌, inl, inr, List, [], ◌∷◌, ◌++◌, Bool, true, false, cond, Some, length, set, Contains, slice_get, refl, ap, ◌∙◌, arith, replicate}
 use Rattle.std.specs.List.{list_any, list_all}
 use Rattle.std.proofs.lemmas.Option.{slice_get-get_or}
-use Rattle.std.proofs.lemmas.Bool.{and_parts, and_from, or_cases}
-use Rattle.std.specs.Cmp.Lexicographic.{pointwise, same_text}
-use Rattle.std.proofs.lemmas.Cmp.{nat_list_eq_equiv}
+use Rattle.std.proofs.lemmas.Bool.{and_parts, or_cases}
 use Rattle.std.proofs.lemmas.List.Elements.{Contains-append_left, Contains-append_right, Contains-push, Contains-push_cases, Contains-append_cases}
 use Rattle.cops_types.specs.declared.dep.Dep.{Dep}
 use Rattle.cops_types.specs.Dep.{is_same_dep}
 use Rattle.cops_context.specs.Context.{with_pair}
+use Rattle.cops_node.proofs.Same.{same_pair_true}
 
 pub contains_none : {X : Type 0} (x : X) → Contains [] x → ⊥
 contains_none x h = omega (arith, h.1)
@@ -43,16 +42,6 @@ get_last (x ∷ xs) y = get_last xs y
 -- the pair of this key and this version
 abbrev pub at_version : List ℕ → ℕ → Dep
 at_version k v = record { key = k; version = v }
-
-pub same_pair_true : (a b : Dep) → is_same_dep a b ≡ true → a ≡ b
-same_pair_true a b h =
-    let parts = and_parts (pointwise ◌==◌ a.key b.key) _ h in
-    let keys : a.key ≡ b.key = same_text a.key b.key (sym parts.0) in
-    let versions : a.version ≡ b.version = eqb-true a.version b.version parts.1 in
-    ap₂ at_version keys versions
-
-pub same_pair_refl : (a : Dep) → is_same_dep a a ≡ true
-same_pair_refl a = and_from (pointwise ◌==◌ a.key a.key) _ (nat_list_eq_equiv.refl a.key) (eq-eqb a.version a.version refl)
 
 pub any_pair : (p : Dep) (ps : List Dep) → list_any (is_same_dep p) ps ≡ true → Contains ps p
 any_pair p [] h = cc

@@ -12,7 +12,8 @@ use Rattle.cops_store.specs.Store.{Stored, stored_pair, has_pair, with_settled, 
 use Rattle.cops_held.specs.Held.{Waiting, is_at, marked, with_waiting, with_mark, without}
 use Rattle.cops_node.specs.Node.{Node, opened, raised}
 use Rattle.cops_core.specs.World.{World, node_at, with_node, settled_in}
-use Rattle.cops_core.proofs.Lists.{same_pair_true, same_pair_refl, contains_none, contains_one, contains_cases, contains_head, contains_tail}
+use Rattle.cops_node.proofs.Same.{same_pair_true, same_pair_refl}
+use Rattle.cops_core.proofs.Lists.{contains_none, contains_one, contains_cases, contains_head, contains_tail}
 
 -- an element that passes the test
 pub record Passes {X : Type 0} (test : X → Bool) (xs : List X) : Type 0 where

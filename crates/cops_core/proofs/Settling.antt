@@ -15,7 +15,8 @@ use Rattle.cops_node.specs.Node.{dep_at, put_pair, stored_of, Node, mark_at, set
 use Rattle.cops_core.specs.World.{Setting, home, primary, Said, World, node_at, with_node, sent, same_said, was_said, gained, with_said, is_answered, keeps, delivers, DeliverTo, AskAt, MarkAt, SettleAt}
 use Rattle.cops_core.specs.Machine.{view}
 use Rattle.cops_types.specs.NodeNumber.{place_of}
-use Rattle.cops_core.proofs.Lists.{same_pair_true, not_marked, get_set_cases, all_true_at, place_in}
+use Rattle.cops_node.proofs.Same.{same_pair_true}
+use Rattle.cops_core.proofs.Lists.{not_marked, get_set_cases, all_true_at, place_in}
 use Rattle.cops_core.proofs.Accepted.{Kept}
 use Rattle.cops_core.proofs.Bounds.{IsBounded, bounded_stays}
 use Rattle.cops_core.proofs.Nodes.{any_to, find_to, IsMarked, with_mark_cases, with_waiting_cases, same_node, without_to, with_settled_old, with_settled_cases}

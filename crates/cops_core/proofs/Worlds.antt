@@ -7,7 +7,7 @@ use Rattle.std.proofs.lemmas.Bool.{ltb-true}
 use Rattle.cops_types.specs.declared.dep.Dep.{Dep}
 use Rattle.cops_types.specs.declared.put_record.PutRecord.{PutRecord}
 use Rattle.cops_types.specs.declared.op.OpName.{OpName}
-use Rattle.cops_types.specs.Format.{most_deps, Fits, IsInFormat, fits}
+use Rattle.cops_types.specs.Format.{AreInFormat, most_deps, Fits, IsInFormat, fits}
 use Rattle.cops_types.specs.Past.{Past}
 use Rattle.cops_node.specs.declared.outcome.Outcome.{Outcome}
 use Rattle.cops_node.specs.declared.outcome.Outcome.TheVariants.{Refused}
@@ -24,7 +24,7 @@ use Rattle.cops_core.specs.Machine.{context_of, session, Step, view}
 use Rattle.cops_core.specs.World.{Setting, IsSetting, home, primary, World, node_at, context_in, sent, is_answered, knows, has_room, has_context_room, is_dc, checks, refusal, keeps, done, Act, Event, act_of, WriteBy, GetBy, DeliverTo, AskAt, MarkAt, SettleAt, happens, Happens, row, rows, opening, Run, IsReached}
 use Rattle.cops_types.specs.Verdicts.{HasAcceptedVerdict}
 use Rattle.cops_types.specs.NodeNumber.{place_of}
-use Rattle.cops_core.specs.Invariants.{AreInFormat, Covers, IsCarried, IsIssued, Invariants}
+use Rattle.cops_core.specs.Invariants.{Covers, IsCarried, IsIssued, Invariants}
 use Rattle.cops_core.proofs.Lists.{at_version, contains_none}
 use Rattle.cops_core.proofs.Reaching.{reaches_settled}
 use Rattle.cops_core.proofs.Contexts.{context_before, AllFair, fair_at, WasPut, WasGot, covers_later}

@@ -3,13 +3,12 @@ use Rattle.std.specs.Prelude.{◌≡◌, ℕ, ◌≤◌, List, true, Contains, S
 use Rattle.cops_types.specs.declared.dep.Dep.{Dep}
 use Rattle.cops_types.specs.declared.put_record.PutRecord.{PutRecord}
 use Rattle.cops_types.specs.declared.op.OpName.{OpName}
-use Rattle.cops_types.specs.declared.format.Format.{Format}
-use Rattle.cops_types.specs.Histories.{Sessions, IsNamed, IsPut, IsGot, Operation, op_at}
+use Rattle.cops_types.specs.Histories.{IsNamed, IsPut, IsGot}
 use Rattle.cops_types.specs.Past.{Past}
 use Rattle.cops_types.specs.Recorded.{IsWithinLimits}
 use Rattle.cops_types.specs.VersionOrder.{NoneDoubled}
 use Rattle.cops_types.specs.Version.{clock_of}
-use Rattle.cops_types.specs.Format.{most_deps, Fits, IsInFormat}
+use Rattle.cops_types.specs.Format.{most_deps, Fits}
 use Rattle.cops_context.specs.Kept.{IsContext}
 use Rattle.cops_store.specs.Store.{Stored}
 use Rattle.cops_held.specs.Held.{Waiting}
@@ -31,10 +30,6 @@ pub record IsCarried (s : State) (dc client : ℕ) (pair : Dep) : Type 0 where
 -- an issued put has this key, content and version
 abbrev pub IsIssued : World → List ℕ → Option (List ℕ) → ℕ → Type 0
 IsIssued w key content version = (p : PutRecord) × Contains w.issued p × (p.key ≡ key) × (p.value ≡ content) × (p.version ≡ version)
-
--- each operation is in the format
-abbrev pub AreInFormat : Format → Sessions → Type 0
-AreInFormat format h = (name : OpName) (op : Operation) → op_at h name ≡ Some op → IsInFormat format op
 
 pub record Invariants (s : Setting) (w : World) : Type 0 where
   -- the set of puts that a data centre has settled is closed under dependencies

@@ -98,7 +98,7 @@ pub fn record(history: &mut History, client: u16, op: Op)
 
 /// A put without its version: its key and value, and its dependencies, the client's context. Without a value it is a
 /// deletion.
-#[derive(Drop)]
+#[derive(Clone, Drop)]
 pub struct Draft {
     pub key: Key,
     pub value: Option<Value>,
@@ -132,21 +132,15 @@ pub struct Copies {
     pub op_value: Option<Value>,
 }
 
-/// Copies a client's write for each place where it is stored. Fails if memory runs out.
-pub fn copies_of(
-    contexts: &ClientContexts,
-    client: u16,
-    key: &Key,
-    content: Option<&Value>,
-) -> Result<Copies, Memory>
-    requires { client < length contexts.now.pairs }
-    ensures { IfOk result (λ copies. copies ≡ record { issued = record { key = key.now; value = option_copied content.entry; deps = slice_index_or contexts.now.pairs client [] }; pair_key = key.now; op_key = key.now; op_value = option_copied content.entry }) }
+/// Copies a draft for each place where its put is stored. Fails if memory runs out.
+pub fn copies_of(draft: &Draft) -> Result<Copies, Memory>
+    ensures { IfOk result (λ copies. copies ≡ record { issued = draft.now; pair_key = draft.now.key; op_key = draft.now.key; op_value = draft.now.value }) }
 {
     Ok(Copies {
-        issued: drafted(contexts, client, key, content)?,
-        pair_key: key.clone()?,
-        op_key: key.clone()?,
-        op_value: content_copy(content)?,
+        issued: draft.clone()?,
+        pair_key: draft.key.clone()?,
+        op_key: draft.key.clone()?,
+        op_value: content_copy(draft.value.as_ref())?,
     })
 }
 
@@ -158,20 +152,6 @@ pub fn write_at(node: &mut Node, client: u16, own: Draft) -> Outcome
     match value {
         Some(value) => node.put(client, key, value, deps),
         None => node.del(client, key, deps),
-    }
-}
-
-/// The operation of a write, for the session.
-fn written(key: Key, content: Option<Value>, version: Version) -> Op
-    ensures { operation_of result ≡ write key content version }
-{
-    match content {
-        Some(value) => Op::Put {
-            version,
-            key,
-            value,
-        },
-        None => Op::Del { version, key },
     }
 }
 
@@ -209,5 +189,5 @@ pub fn keep_put(
         key: pair_key,
     };
     contexts.replace(client, pair);
-    record(history, client, written(op_key, op_value, version))
+    record(history, client, Op::write(op_key, op_value, version))
 }

@@ -8,10 +8,9 @@ use crate::event::{Event, Said};
 use crate::issued::Issued;
 use crate::recording::{admit_get, admit_write, copies_of, drafted, keep_put, record, write_at};
 use crate::table::{answer, events};
-use cops_context::Context;
 use cops_node::Outcome;
 use cops_place::Setting;
-use cops_types::{Dep, Deps, History, Key, Memory, Op, PutRecord, Refusal, Value, Version};
+use cops_types::{Dep, History, Key, Memory, Op, Refusal, Value, Version};
 use std::alloc::Global;
 use std::marker::Model;
 
@@ -19,12 +18,11 @@ use std::marker::Model;
 /// session.
 #[derive(Drop)]
 pub struct State {
-    alloc: Global,
-    centres: DataCentres,
-    issued: Issued,
+    pub centres: DataCentres,
+    pub issued: Issued,
     said: Answers,
-    contexts: ClientContexts,
-    history: History,
+    pub contexts: ClientContexts,
+    pub history: History,
 }
 
 impl Model for State {
@@ -42,11 +40,10 @@ impl Model for State {
 }
 
 impl State {
-    ghost use Rattle.std.specs.Prelude.{◌≡◌, ◌≢◌, [], IfOk, OnErr, Some, None, length, option_copied, slice_get};
+    ghost use Rattle.std.specs.Prelude.{◌≡◌, IfOk, OnErr, Some, None, option_copied};
     ghost use Rattle.cops_types.specs.declared.refusal.Refusal.TheVariants.{Memory as OutOfMemory};
     ghost use Rattle.cops_node.specs.declared.outcome.Outcome.TheVariants.{Refused as RefusedWith};
-    ghost use Rattle.cops_store.specs.Store.{has_pair};
-    ghost use Rattle.cops_core.specs.World.{Happens, context_in, act_of, happens, opening, sent, settled_in, WriteBy, GetBy, DeliverTo, AskAt, MarkAt, SettleAt, IsReached};
+    ghost use Rattle.cops_core.specs.World.{Happens, act_of, happens, opening, WriteBy, GetBy, DeliverTo, AskAt, MarkAt, SettleAt, IsReached};
     ghost use Rattle.cops_core.specs.Memory.{TakesMemory};
 
     /// The state of a world before the first event. Fails if memory runs out.
@@ -55,7 +52,6 @@ impl State {
     {
         let clients = setting.clients() as u16;
         Ok(State {
-            alloc,
             contexts: ClientContexts::new(alloc, clients)?,
             history: History::new(alloc, clients)?,
             centres: DataCentres::open(alloc, setting.dcs(), setting.nodes())?,
@@ -71,59 +67,6 @@ impl State {
         ensures memory { result ≡ RefusedWith OutOfMemory → TakesMemory (act_of event.now) (happens setting.now self.old (act_of event.now)).0 }
     {
         events!(answer self, setting, event)
-    }
-
-    /// The operations of the clients.
-    pub fn history(&self) -> &History
-        ensures { result.now.sessions ≡ self.now.sessions }
-    {
-        &self.history
-    }
-
-    /// Copies of a client's context, which is empty if there is no such client. Fails if memory runs out, but not if
-    /// the context is empty.
-    pub fn deps(&self, client: u16) -> Result<Deps, Memory>
-        ensures ok { IfOk result (λ deps. deps ≡ context_in self.now client) }
-        ensures err { OnErr result (context_in self.now client ≢ []) }
-    {
-        if (client as usize) < self.contexts.len() {
-            self.contexts.deps(client)
-        } else {
-            Context::new(self.alloc).deps()
-        }
-    }
-
-    /// The issued put of this version, if there is one.
-    pub fn sent(&self, version: Version) -> Option<&PutRecord>
-        ensures { option_copied result ≡ sent self.now.issued version }
-    {
-        self.issued.find(version)
-    }
-
-    /// The number of issued puts.
-    pub fn puts(&self) -> usize
-        ensures { result ≡ length self.now.issued }
-    {
-        self.issued.len()
-    }
-
-    /// The put at an index in the order of issue, if there is one.
-    pub fn put_at(&self, place: usize) -> Option<&PutRecord>
-        ensures { option_copied result ≡ slice_get self.now.issued place }
-    {
-        self.issued.at(place)
-    }
-
-    /// Whether exactly this pair is settled in a data centre, at the key's node there. False if there is no such data
-    /// centre.
-    pub fn has_settled(&self, setting: &Setting, dc: u8, key: &Key, version: Version) -> bool
-        requires { IsReached setting.now self.now }
-        ensures { result ≡ has_pair (settled_in self.now dc) (record { key = key.now; version = version }) }
-    {
-        if dc >= setting.dcs() {
-            return false;
-        }
-        self.centres.at(dc, setting.primary(key)).has(key, version)
     }
 
     /// A client puts a value at a key, in its own data centre.
@@ -184,7 +127,7 @@ impl State {
         }
         self.issued.reserve()?;
         let own = drafted(&self.contexts, client, key, content)?;
-        let copies = copies_of(&self.contexts, client, key, content)?;
+        let copies = copies_of(&own)?;
         let node = self.centres.node(setting.home(client), place);
         let outcome = write_at(node, client, own);
         match outcome.version_given() {

@@ -3,6 +3,7 @@ ghost use Rattle.std.specs.Prelude.{◌≡◌};
 use crate::event::Event;
 use crate::fault::WorldFault;
 use crate::state::State;
+use cops_context::Context;
 use cops_node::Outcome;
 use cops_place::{Place, Setting};
 use cops_types::{Deps, Format, History, Key, Memory, PutRecord, Version};
@@ -40,7 +41,8 @@ impl World {
     ghost use Rattle.cops_types.specs.declared.format.Format.TheVariants.{One};
     ghost use Rattle.cops_core.specs.Opened.{opened_world};
     ghost use Rattle.cops_place.specs.Clients.{AreClients};
-    ghost use Rattle.cops_core.specs.Invariants.{AreInFormat, Invariants};
+    ghost use Rattle.cops_core.specs.Invariants.{Invariants};
+    ghost use Rattle.cops_types.specs.Format.{AreInFormat};
 
     /// A new world of format 1 with these data centres and nodes, and a client at each data centre of `client_dcs`.
     /// Errors: `BadClient` if one of those does not exist, or there are more than 65,535 clients; `Memory` if memory
@@ -142,35 +144,51 @@ impl World {
         ensures ok { IfOk result (λ deps. deps ≡ context_in self.now.world client) }
         ensures err { OnErr result (context_in self.now.world client ≢ []) }
     {
-        self.state.deps(client)
+        let state = &self.state;
+        let contexts = &state.contexts;
+        if (client as usize) < contexts.len() {
+            contexts.deps(client)
+        } else {
+            Context::new(self.alloc).deps()
+        }
     }
 
     /// The put of this version, if a client has issued one.
     pub fn sent(&self, version: Version) -> Option<&PutRecord>
         ensures { option_copied result ≡ sent self.now.world.issued version }
     {
-        self.state.sent(version)
+        let state = &self.state;
+        state.issued.find(version)
     }
 
     /// The number of puts that clients have issued.
     pub fn puts(&self) -> usize
         ensures { result ≡ length self.now.world.issued }
     {
-        self.state.puts()
+        let state = &self.state;
+        state.issued.len()
     }
 
     /// The put at an index in the order of issue, if there is one.
     pub fn put_at(&self, place: usize) -> Option<&PutRecord>
         ensures { option_copied result ≡ slice_get self.now.world.issued place }
     {
-        self.state.put_at(place)
+        let state = &self.state;
+        state.issued.at(place)
     }
 
     /// Whether exactly this pair is settled in a data centre. False if there is no such data centre.
     pub fn has_settled(&self, dc: u8, key: &Key, version: Version) -> bool
         ensures { result ≡ has_pair (settled_in self.now.world dc) (record { key = key.now; version = version }) }
     {
-        self.state.has_settled(&self.setting, dc, key, version)
+        if dc >= self.setting.dcs() {
+            return false;
+        }
+        let state = &self.state;
+        state
+            .centres
+            .at(dc, self.setting.primary(key))
+            .has(key, version)
     }
 
     /// The operations of the clients. Whatever events came, the verdict on them is Accepted, and each operation is in
@@ -181,6 +199,18 @@ impl World {
         ensures in_format { AreInFormat self.now.setting.format result.now.sessions }
         ensures invariants { Invariants self.now.setting self.now.world }
     {
-        self.state.history()
+        let state = &self.state;
+        &state.history
+    }
+
+    /// The operations of the clients, as `history` returns them, without the rest of the world.
+    pub fn into_history(self) -> History
+        ensures sessions { result.sessions ≡ self.world.sessions }
+        ensures accepted { HasAcceptedVerdict result.sessions }
+        ensures in_format { AreInFormat self.setting.format result.sessions }
+    {
+        let World { state, .. } = self;
+        let State { history, .. } = state;
+        history
     }
 }

@@ -21,7 +21,7 @@ use Rattle.cops_types.specs.contracts.op.OpNameOrd.TheImpl.Laws.{matches_eq-law,
 use Rattle.cops_types.specs.declared.versioned_put.VersionedPut.{VersionedPut}
 use Rattle.cops_report.specs.Puts.{HasPut}
 use Rattle.cops_report.specs.Reports.{version_at}
-use Rattle.cops_report.proofs.NameCases.{same_name}
+use Rattle.cops_audit.proofs.Acyclic.{same_name}
 use Rattle.cops_explain.specs.Others.{AreOthers, IsOther}
 
 -- a put has one version

@@ -227,42 +227,6 @@ fn push_stale(
     push_stale_end(out, history, fault, chain)
 }
 
-/// The paragraph of a doubled put.
-fn doubled(
-    alloc: Global,
-    out: &mut String,
-    history: &History,
-    puts: &[VersionedPut],
-    number: usize,
-    name: OpName,
-) -> Result<(), AllocError>
-    requires puts { HasAllPuts history.now.sessions puts.now }
-    requires doubled { IsFault history.now.sessions (Fault.Doubled name) }
-    ensures { OnOk result
-        (AddsParagraph history.now.sessions number (Fault.Doubled name) (string_bytes out.old) (string_bytes out.new)) }
-{
-    let others = others(alloc, history, puts, name)?;
-    push_doubled(out, history, number, name, &others)
-}
-
-/// The paragraph of a get without a source.
-fn no_source(
-    alloc: Global,
-    out: &mut String,
-    history: &History,
-    puts: &[VersionedPut],
-    number: usize,
-    name: OpName,
-) -> Result<(), AllocError>
-    requires puts { HasAllPuts history.now.sessions puts.now }
-    requires no_source { IsFault history.now.sessions (Fault.NoSource name) }
-    ensures { OnOk result
-        (AddsParagraph history.now.sessions number (Fault.NoSource name) (string_bytes out.old) (string_bytes out.new)) }
-{
-    let holders = others(alloc, history, puts, name)?;
-    push_no_source(out, history, number, name, &holders)
-}
-
 /// The paragraph of a stale get.
 fn stale(
     alloc: Global,
@@ -302,8 +266,14 @@ fn push_by_class(
         (AddsParagraph history.now.sessions number fault (string_bytes out.old) (string_bytes out.new)) }
 {
     match fault {
-        Fault::Doubled(name) => doubled(alloc, out, history, puts, number, name)?,
-        Fault::NoSource(name) => no_source(alloc, out, history, puts, number, name)?,
+        Fault::Doubled(name) => {
+            let others = others(alloc, history, puts, name)?;
+            push_doubled(out, history, number, name, &others)?;
+        }
+        Fault::NoSource(name) => {
+            let holders = others(alloc, history, puts, name)?;
+            push_no_source(out, history, number, name, &holders)?;
+        }
         Fault::NotAbove(fault) => push_not_above(out, history, number, fault)?,
         Fault::Stale(fault) => stale(alloc, out, history, puts, number, fault)?,
     }

@@ -28,12 +28,11 @@ use Rattle.cops_trace.proofs.Begun.{add_cut, cut_begun, cut_kept, new_cut, rest_
 use Rattle.cops_trace.proofs.Allocation.{IsTrace-grown, IsTrace-none, beginning-grown, beginning-none}
 use Rattle.cops_trace.proofs.Readings.{prefix_len, text_len}
 use Rattle.cops_trace.proofs.Underway.{counts_grown, counts_none}
-use Rattle.cops_import.specs.Faults.{IsFaultOf, IsTooMany}
+use Rattle.cops_import.specs.Faults.{IsTooMany}
 use Rattle.cops_import.specs.Lines.{names_of, record_of, trace_of}
 use Rattle.cops_import.specs.Names.{number_of, with_name}
-use Rattle.cops_import.specs.Underway.{HasLeft, HasTaken, HasWritten, IsStopAtEnd, trace_to}
+use Rattle.cops_import.specs.Underway.{HasLeft, HasTaken, HasWritten, trace_to}
 use Rattle.cops_import.specs.Writing.{fault_of}
-use Rattle.cops_import.specs.declared.fault.ImportFault.TheVariants.{ReadFailed}
 use Rattle.cops_import.specs.declared.fault.JsonLineFault.TheVariants.{TooManyOperations}
 use Rattle.cops_import.specs.declared.importer.Importer.{Importer}
 use Rattle.cops_import.specs.declared.line.LineOp.{LineOp}
@@ -181,17 +180,3 @@ too_many clients given reported counts client h number there full few =
           let own : turn client (trace_of given).records < MAX_CLIENT_OPS = subst (λ (k : ℕ). turn k (trace_of given).records < MAX_CLIENT_OPS) same room.0 in
           full (omega (arith, h.clients, there), omega (arith, h.next client, own), omega (arith, h.total, many, room.1)),
     )
-
--- a failed write says nothing about the lines
-pub write_says : (clients : ℕ) (bytes : List ℕ) (e : WriteFault) → IsFaultOf clients bytes (fault_of e)
-write_says clients bytes write.Memory = tt
-write_says clients bytes (write.WriteFailed written) = tt
-
-pub write_stops : (clients : ℕ) (given : List LineOp) (e : WriteFault) → IsStopAtEnd clients given (fault_of e)
-write_stops clients given write.Memory = tt
-write_stops clients given (write.WriteFailed written) = tt
-
--- a failed write is not a failed read
-pub write_device : (e : WriteFault) → fault_of e ≢ ReadFailed
-write_device write.Memory q = let no : ⊥ = cc in no
-write_device (write.WriteFailed written) q = let no : ⊥ = cc in no

@@ -1,5 +1,5 @@
 //! Importing a text of lines.
-ghost use Rattle.std.specs.Prelude.{◌≡◌, ◌≢◌, [], length, IfErr, IfOk, IfSome, OnOk};
+ghost use Rattle.std.specs.Prelude.{◌≡◌, [], length, IfErr, IfOk, IfSome, OnOk};
 ghost use Rattle.cops_types.specs.declared.counted.Counted.{Counted as ACounted};
 ghost use Rattle.cops_types.specs.Counted.{failures, inner};
 ghost use Rattle.cops_import.specs.Faults.{IsCutBy, IsFaultOf, IsHeardBy, IsReadBy};

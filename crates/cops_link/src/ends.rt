@@ -1,5 +1,5 @@
 //! The two ends of a link.
-ghost use Rattle.std.specs.Prelude.{◌≡◌, ◌≤◌, ◌<◌, ◌⊎◌, ◌↔◌, ℕ, List, [], ◌∷◌, ◌++◌, length, IsOk, IfOk, IfErr, IsErrOf, OnOk, OnErr, IfSome, MatchOption};
+ghost use Rattle.std.specs.Prelude.{◌≡◌, ◌<◌, ◌⊎◌, ◌↔◌, ℕ, List, [], ◌∷◌, ◌++◌, length, IsOk, IfOk, IfErr, IsErrOf, OnOk, OnErr, IfSome, MatchOption};
 ghost use Rattle.cops_types.specs.declared.put_record.PutRecord.{PutRecord};
 ghost use Rattle.cops_wire.specs.Replicated.{put_after};
 ghost use Rattle.cops_link.specs.declared.ends.TheConstants.{MAX_CAPACITY};

@@ -47,8 +47,8 @@ starts format from old before none = record {
 }
 
 -- what a session did, by its result
-abbrev pub Did : Format → Option (List ℕ) → Option (List ℕ) → List Call → List Call → Option (List ℕ) → Option (List ℕ) → Result Served NetFault → Type 0
-Did format from to old new before after result =
+abbrev pub HasServedFrom : Format → Option (List ℕ) → Option (List ℕ) → List Call → List Call → Option (List ℕ) → Option (List ℕ) → Result Served NetFault → Type 0
+HasServedFrom format from to old new before after result =
     (input : List ℕ) × (gained : List Call) × (written : List ℕ)
     × Consumes from to input × (new ≡ old ++ gained) × Appends before after written
     × Serves format (IsAtEnd to) input gained written result
@@ -64,7 +64,7 @@ Turned format old new before after greeted m result = (gained : List Call) × (w
 module _ {format : Format} {from mid : Option (List ℕ)} {old new : List Call} {before after : Option (List ℕ)} {rest : List ℕ} {greeted : Bool} {n : ℕ} (u : Underway format from mid old new before after rest greeted n)
     {same read : Format} (is_same : same ≡ format) (is_read : read ≡ phase same greeted) (to : Option (List ℕ)) (left : List ℕ) where
   -- bytes came, and nothing else happened
-  read_on : (came : List ℕ) (result : Result Served NetFault) → Consumes mid to came → Serves format (IsAtEnd to) (u.input ++ came) u.gained u.written result → Did format from to old new before after result
+  read_on : (came : List ℕ) (result : Result Served NetFault) → Consumes mid to came → Serves format (IsAtEnd to) (u.input ++ came) u.gained u.written result → HasServedFrom format from to old new before after result
   read_on came result took serves = (u.input ++ came, u.gained, u.written, consumed from mid to u.input came u.taken took, u.called, u.appended, serves)
 
   -- the message is read in the format that follows from the calls so far
@@ -72,15 +72,15 @@ module _ {format : Format} {from mid : Option (List ℕ)} {old new : List Call} 
       → IsTaken (next_format format u.gained) (IsAtEnd to) (rest ++ came) result left
   taken_here came result t = subst (λ (f : Format). IsTaken f (IsAtEnd to) (rest ++ came) result left) (is_read ∙ ap (λ (f : Format). phase f greeted) is_same ∙ ap (λ (b : Bool). phase format b) u.greets) t
 
-  pub fails_reading : (e : NetFault) → Next read mid to rest (Err e) left → Did format from to old new before after (Err e)
+  pub fails_reading : (e : NetFault) → Next read mid to rest (Err e) left → HasServedFrom format from to old new before after (Err e)
   fails_reading e next = read_on next.0 (Err e) next.1 (ends_reading format (IsAtEnd to) u.ms u.input u.gained u.written rest next.0 left e u.stays u.answered (taken_here next.0 (Err e) next.2))
 
-  pub ends_there : (answered : ℕ) → answered ≡ n → Next read mid to rest (Ok None) left → Did format from to old new before after (Ok (record { answered = answered }))
+  pub ends_there : (answered : ℕ) → answered ≡ n → Next read mid to rest (Ok None) left → HasServedFrom format from to old new before after (Ok (record { answered = answered }))
   ends_there answered same next =
       read_on next.0 (Ok (record { answered = answered })) next.1
       (ends_input format (IsAtEnd to) u.ms u.input u.gained u.written rest next.0 left answered u.stays u.answered (same ∙ u.count) (taken_here next.0 (Ok None) next.2))
 
-  pub is_full : (m : Message) → n ≡ MAX_MESSAGES → Next read mid to rest (Ok (Some m)) left → Did format from to old new before after (Err TurnLimit)
+  pub is_full : (m : Message) → n ≡ MAX_MESSAGES → Next read mid to rest (Ok (Some m)) left → HasServedFrom format from to old new before after (Err TurnLimit)
   is_full m full next = read_on next.0 (Err TurnLimit) next.1 (ends_full format (IsAtEnd to) u.ms u.input u.gained u.written rest m next.0 left u.stays u.answered (sym u.count ∙ full) (taken_here next.0 (Ok (Some m)) next.2))
 
   -- a message came, and was answered
@@ -92,7 +92,7 @@ module _ {format : Format} {from mid : Option (List ℕ)} {old new : List Call} 
     answered_here calls out r a = subst (λ (b : Bool). IsAnswered format b m calls out r) u.greets a
 
     turned_on : (r : Result Bool NetFault) (t : Turned format new later after wrote greeted m r) (result : Result Served NetFault)
-        → Serves format (IsAtEnd to) (u.input ++ next.0) (u.gained ++ t.0) (u.written ++ t.1) result → Did format from to old later before wrote result
+        → Serves format (IsAtEnd to) (u.input ++ next.0) (u.gained ++ t.0) (u.written ++ t.1) result → HasServedFrom format from to old later before wrote result
     turned_on r t result serves = (
       u.input ++ next.0,
       u.gained ++ t.0,
@@ -103,12 +103,12 @@ module _ {format : Format} {from mid : Option (List ℕ)} {old new : List Call} 
       serves,
     )
 
-    pub fails_answering : (e : NetFault) → Turned format new later after wrote greeted m (Err e) → Did format from to old later before wrote (Err e)
+    pub fails_answering : (e : NetFault) → Turned format new later after wrote greeted m (Err e) → HasServedFrom format from to old later before wrote (Err e)
     fails_answering e t =
         turned_on (Err e) t (Err e)
         (ends_answering format (IsAtEnd to) u.ms u.input u.gained u.written rest m next.0 left t.0 t.1 e u.stays u.answered (taken_here next.0 (Ok (Some m)) next.2).0 next.2.1 (answered_here t.0 t.1 (Err e) t.4))
 
-    pub says_bye : (now : Bool) → Turned format new later after wrote greeted m (Ok now) → is_bye m ≡ true → Did format from to old later before wrote (Ok (record { answered = n + 1 }))
+    pub says_bye : (now : Bool) → Turned format new later after wrote greeted m (Ok now) → is_bye m ≡ true → HasServedFrom format from to old later before wrote (Ok (record { answered = n + 1 }))
     says_bye now t bye =
         turned_on (Ok now) t (Ok (record { answered = n + 1 }))
         (ends_bye format (IsAtEnd to) u.ms u.input u.gained u.written rest m next.0 left t.0 t.1 now n u.stays u.answered u.count (taken_here next.0 (Ok (Some m)) next.2).0 next.2.1 (answered_here t.0 t.1 (Ok now) t.4) bye)

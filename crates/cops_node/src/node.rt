@@ -34,7 +34,7 @@ impl Model for Node {
 impl Node {
     ghost use Rattle.std.specs.Prelude.{◌≡◌, ◌<◌, ◌≤◌, ◌⊎◌, length, option_copied, IfOk, IfErr, OnOk, OnErr};
     ghost use Rattle.std.specs.Option.{option_map};
-    ghost use Rattle.cops_store.specs.Store.{Stored, has_pair, shown};
+    ghost use Rattle.cops_store.specs.Store.{has_pair, shown};
     ghost use Rattle.cops_store.specs.Settling.{shown_keys};
     ghost use Rattle.cops_held.specs.Held.{waiting};
     ghost use Rattle.cops_node.specs.declared.event.NodeEvent.TheVariants.{Put, Del, Get, Deliver, Ask, Mark, Settle};

@@ -63,9 +63,9 @@ impl Book {
     /// nothing changes, and no entry is made.
     pub fn step_recorded(&mut self, ticket: u64, event: NodeEvent) -> Result<Recorded, Memory>
         ensures memory { OnErr result (self.new ≡ self.old) }
-        ensures stepped { IfOk result (λ reported. node_step self.old.node event ≡ (reported.outcome, self.new.node)) }
-        ensures entered { IfOk result (λ reported. self.new.entries ≡ self.old.entries ++ entry ticket event reported.outcome ∷ []) }
-        ensures reported { IfOk result (λ reported. (reported.seen ≡ reported.outcome) × (reported.entry ≡ entry ticket event reported.outcome)) }
+        ensures stepped { IfOk result (λ recorded. node_step self.old.node event ≡ (recorded.outcome, self.new.node)) }
+        ensures entered { IfOk result (λ recorded. self.new.entries ≡ self.old.entries ++ entry ticket event recorded.outcome ∷ []) }
+        ensures copies { IfOk result (λ recorded. (recorded.seen ≡ recorded.outcome) × (recorded.entry ≡ entry ticket event recorded.outcome)) }
     {
         self.entries.reserve(1)?;
         let events = Events::of(&event)?;

@@ -36,7 +36,7 @@ impl Model for Records {
 }
 
 impl Records {
-    ghost use Rattle.std.specs.Prelude.{◌≡◌, ◌+◌, ◌<◌, ◌≤◌, ◌⊎◌, ◌↔◌, [], ℕ, drop, length, replicate, IfOk, IsErrOf, OnOk, OnErr};
+    ghost use Rattle.std.specs.Prelude.{◌≡◌, ◌+◌, ◌<◌, ◌≤◌, ◌↔◌, [], drop, length, replicate, IfOk, IsErrOf, OnOk, OnErr};
     ghost use Rattle.cops_types.specs.Format.{IsInFormat};
     ghost use Rattle.cops_types.specs.Operations.{operation_of};
     ghost use Rattle.cops_record.specs.Records.{State, IsFull, recorded, seat_of, seat, slots, with_slot, without_slot, with_op};

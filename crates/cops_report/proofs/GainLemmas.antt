@@ -8,7 +8,7 @@ use Rattle.cops_types.specs.Histories.{Sessions}
 use Rattle.cops_types.specs.Past.{Step}
 use Rattle.cops_report.specs.declared.marks.Mark.{Mark}
 use Rattle.cops_report.specs.Marks.{Table, Gains, HasPlace, IsMarked, mark_at, with_mark}
-use Rattle.cops_report.proofs.NameCases.{name_cases}
+use Rattle.cops_audit.proofs.Differing.{name_cases}
 use Rattle.cops_report.proofs.Tables.{mark_at-other, mark_at-same, open-with_mark, place-with_mark}
 
 pub gains_none : (h : Sessions) (mark : Mark) (t : Table) (names : List OpName) → Gains h mark t t names names

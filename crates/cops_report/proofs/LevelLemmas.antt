@@ -11,7 +11,7 @@ use Rattle.cops_types.specs.Histories.{Sessions, IsNamed}
 use Rattle.cops_report.specs.declared.marks.Mark.{Mark}
 use Rattle.cops_report.specs.Marks.{Table, Gains, PlacesAll, SessionsMarked, mark_at, unmarked, with_mark}
 use Rattle.cops_report.specs.Searches.{HasSteps, IsAtOrBefore, IsLevel, IsRising, IsSearch}
-use Rattle.cops_report.proofs.NameCases.{name_cases}
+use Rattle.cops_audit.proofs.Differing.{name_cases}
 use Rattle.cops_report.proofs.SearchLemmas.{steps_before, steps_kept}
 use Rattle.cops_report.proofs.StepLemmas.{earlier_step, name_at}
 use Rattle.cops_report.proofs.Tables.{mark_at-other, mark_at-same, mark_at-unmarked, place_marked, places-unmarked}
@@ -116,9 +116,6 @@ pub level_permuted : (t : Table) (k : ℕ) (xs ys : List OpName) → IsPermutati
 level_permuted t k xs ys p is n = (λ c. (is n).0 (Contains-permutation ys xs n (IsPermutation-sym xs ys p) c), λ a. Contains-permutation xs ys n p ((is n).1 a))
 
 -- ---- the beginning
-
-root_mark : OpName → Mark
-root_mark to = record { steps = 0; next = to }
 
 module _ (h : Sessions) (to : OpName) (m0 : Mark) (is0 : m0.steps ≡ 0) (named : IsNamed h to) where
   start : Table

@@ -1,4 +1,3 @@
-pub mod NameCases
 pub mod Tables
 pub mod GainLemmas
 pub mod StepLemmas

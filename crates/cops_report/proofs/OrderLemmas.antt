@@ -6,7 +6,7 @@ use Rattle.std.proofs.lemmas.Bool.{cases_eq, eqb-true, eqb-false, ltb-false}
 use Rattle.cops_types.specs.declared.op.OpName.{OpName}
 use Rattle.cops_types.specs.Faults.{IsBefore}
 use Rattle.cops_report.specs.Searches.{IsAtOrBefore, IsRising}
-use Rattle.cops_report.proofs.NameCases.{same_name}
+use Rattle.cops_audit.proofs.Acyclic.{same_name}
 
 not_below : (a b : OpName) → is_lt (ordering_then (nat_cmp b.client a.client) (nat_cmp b.index a.index)) ≡ false → IsAtOrBefore a b
 not_below a b h = go (ltb b.client a.client) (eqb b.client a.client) (ltb b.index a.index) (eqb b.index a.index) refl refl refl h

@@ -1,28 +1,17 @@
 -- The puts by their versions.
-use Rattle.std.proofs.Common.{◌≡◌, ◌≢◌, ◌+◌, ◌-◌, ◌<◌, ◌≤◌, ℕ, Bool, true, false, List, [], Some, sym, subst, arith, inl, inr, get_or, length, take, drop, ltb, ◌∙◌, ap}
+use Rattle.std.proofs.Common.{◌≡◌, ◌≢◌, ◌+◌, ◌-◌, ◌<◌, ◌≤◌, ℕ, Bool, true, false, List, Some, sym, subst, arith, inl, inr, get_or, length, take, drop, ltb, ◌∙◌, ap}
 use Rattle.std.specs.List.Sorted.{IsNonDecreasingBy, IsPermutation, IsPartitionPoint}
 use Rattle.std.proofs.lemmas.Bool.{cases_lt, ltb-true, ltb-false}
-use Rattle.std.proofs.lemmas.List.{get_or_past, get_or_default, get_or-drop, length-drop, take_rest}
+use Rattle.std.proofs.lemmas.List.{get_or_default, get_or-drop, length-drop, take_rest}
 use Rattle.std.proofs.lemmas.List.Sorted.{Contains-permutation}
 use Rattle.cops_types.specs.declared.op.OpName.{OpName}
-use Rattle.cops_types.specs.Histories.{Sessions, IsNamed, PutsVersion, SourceStep, read}
+use Rattle.cops_types.specs.Histories.{Sessions, IsNamed, SourceStep, read}
 use Rattle.cops_types.specs.Operations.{GetsVersion}
 use Rattle.cops_types.specs.PutLists.{AreAllPuts}
 use Rattle.cops_report.specs.declared.marks.Mark.{Mark}
 use Rattle.cops_types.specs.declared.versioned_put.VersionedPut.{VersionedPut}
 use Rattle.cops_report.specs.Marks.{Table, Gains, IsMarked}
 use Rattle.cops_report.specs.Puts.{HasPut, HasAllPuts}
-use Rattle.cops_report.proofs.Tables.{named_index}
-
--- the client of an operation is in the history
-pub named_client : (h : Sessions) (n : OpName) → IsNamed h n → n.client < length h
-named_client h n named = elim (cases_lt n.client (length h)) [
-  | inl lt ↦ lt
-  | inr past ↦ (let none = get_or_past h n.client [] past in let i = named_index h n named in absurd (omega (arith, ap length none)))
-]
-
-pub version_named : (h : Sessions) (n : OpName) (v : ℕ) → PutsVersion h n v → IsNamed h n
-version_named h n v put = (_, put.2)
 
 pub source_named : (h : Sessions) (p g : OpName) → SourceStep h p g → IsNamed h p
 source_named h p g s = (_, s.put)

@@ -20,7 +20,7 @@ use Rattle.cops_audit.specs.declared.verdict.NotAbove.{NotAbove}
 use Rattle.cops_audit.specs.declared.verdict.Stale.{Stale}
 use Rattle.cops_report.specs.Chains.{IsChain, IsFirstChain, LeadsTo}
 use Rattle.cops_report.specs.Reports.{AreStaleLines, IsReport, accepted_line, named_line, not_above_line, op_version, refused_line, returned_text, stale_line, version_at}
-use Rattle.cops_report.proofs.NameCases.{name_cases}
+use Rattle.cops_audit.proofs.Differing.{name_cases}
 
 -- ---- what is left where the values are left out
 

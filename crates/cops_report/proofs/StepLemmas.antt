@@ -1,22 +1,16 @@
 -- Session steps, by places in a session.
-use Rattle.std.proofs.Common.{◌≡◌, ◌+◌, ◌<◌, ◌≤◌, ℕ, zero, suc, List, [], ◌∷◌, Some, None, refl, sym, subst, ap, arith, inl, inr, get_or}
+use Rattle.std.proofs.Common.{◌≡◌, ◌+◌, ◌<◌, ◌≤◌, ℕ, List, [], refl, sym, subst, ap, arith, inl, inr, get_or}
 use Rattle.std.proofs.lemmas.Bool.{cases_lt}
-use Rattle.std.specs.Prelude.{slice_get}
 use Rattle.cops_types.specs.declared.op.OpName.{OpName}
-use Rattle.cops_types.specs.Histories.{Sessions, IsNamed, SessionStep, Operation}
+use Rattle.cops_types.specs.Histories.{Sessions, IsNamed, SessionStep}
 use Rattle.cops_types.specs.Past.{Step}
 use Rattle.cops_report.specs.declared.marks.Mark.{Mark}
 use Rattle.cops_report.specs.Marks.{AreMarked, Table, Gains, IsMarked, IsNearer, SessionsMarked}
-use Rattle.cops_report.proofs.NameCases.{same_name}
+use Rattle.cops_audit.proofs.Acyclic.{same_name}
+use Rattle.cops_audit.proofs.PastOrder.{earlier_there}
 
 abbrev pub name_at : ℕ → ℕ → OpName
 name_at client index = record { client = client; index = index }
-
-earlier_there : (s : List Operation) (i j : ℕ) → i < j → (op : Operation) × (slice_get s j ≡ Some op) → (op : Operation) × (slice_get s i ≡ Some op)
-earlier_there [] i j lt there = (let e : None ≡ Some there.0 = there.1 in absurd cc)
-earlier_there (x ∷ xs) zero j lt there = (x, refl)
-earlier_there (x ∷ xs) (suc i) zero lt there = absurd (omega arith)
-earlier_there (x ∷ xs) (suc i) (suc j) lt there = earlier_there xs i j (omega arith) there
 
 pub earlier_named : (h : Sessions) (n : OpName) (index : ℕ) → IsNamed h n → index < n.index → IsNamed h (name_at n.client index)
 earlier_named h n index named lt = earlier_there (get_or h n.client []) index n.index lt named

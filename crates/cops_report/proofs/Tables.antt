@@ -9,7 +9,7 @@ use Rattle.std.proofs.lemmas.List.Folds.{sum_by-replicate}
 use Rattle.cops_types.specs.declared.op.OpName.{OpName}
 use Rattle.cops_types.specs.Histories.{Sessions, IsNamed, Operation}
 use Rattle.cops_types.specs.Counts.{count_of}
-use Rattle.cops_report.proofs.NameCases.{same_name}
+use Rattle.cops_audit.proofs.Acyclic.{same_name}
 use Rattle.cops_report.specs.declared.marks.Mark.{Mark}
 use Rattle.cops_report.specs.Marks.{Table, HasPlace, IsMarked, PlacesAll, mark_at, open_places, unmarked, with_mark}
 

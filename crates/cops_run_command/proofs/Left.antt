@@ -1,16 +1,19 @@
 -- What a run produces, from what its parts return.
 use Rattle.std.specs.Prelude.{IfOk}
-use Rattle.std.specs.Global.{Vec}
-use Rattle.cops_types.specs.declared.fault.Memory.{Memory}
-use Rattle.std.proofs.Common.{Result, Ok, Err, ◌≡◌, ℕ, List, [], ◌++◌, length, replicate, sym, ap, subst, ◌∙◌}
-use Rattle.std.proofs.lemmas.List.{length-map}
+use Rattle.std.proofs.Common.{Result, Ok, Err, ◌≡◌, ℕ, List, [], ◌++◌, length, map, replicate, sym, ap, subst, ◌∙◌}
+use Rattle.std.proofs.lemmas.List.{length-map, length-replicate}
 use Rattle.cops_node.specs.declared.outcome.Outcome.{Outcome}
 use Rattle.cops_core.specs.declared.event.Event.{Event}
-use Rattle.cops_core.specs.World.{IsSetting, Setting, World, opening, IsReached}
+use Rattle.cops_core.specs.World.{Setting, opening}
 use Rattle.cops_core.specs.Memory.{AnswersEach}
+use Rattle.cops_types.specs.Format.{AreInFormat}
+use Rattle.cops_types.specs.Histories.{Sessions}
 use Rattle.cops_types.specs.Verdicts.{HasAcceptedVerdict}
 use Rattle.cops_core.specs.Opened.{AWorld, opened_world}
+use Rattle.cops_trace.specs.Kept.{trace_of, IsOrder}
 use Rattle.cops_trace.specs.Text.{ATrace, IsTrace, sessions_after, sessions_of}
+use Rattle.cops_trace.proofs.Allocation.{with_records}
+use Rattle.cops_trace.proofs.Keeping.{AreInside, order_again, trace_again}
 use Rattle.cops_scenario.specs.declared.script.ScriptedClient.{ScriptedClient}
 use Rattle.cops_audit.specs.declared.verdict.Verdict.{Verdict}
 use Rattle.cops_report.specs.Reported.{IsReportOf}
@@ -19,44 +22,55 @@ use Rattle.cops_run_command.specs.declared.leaving.Left.{Left}
 use Rattle.cops_run_command.specs.Lines.{outcome_lines}
 use Rattle.cops_run_command.specs.Parts.{AreAnswers, IsRunLeft}
 use Rattle.cops_run_command.specs.Running.{all_seen, IsEventRun, IsRunOf, IsLeft}
-use Rattle.cops_run_command.proofs.Recording.{run_of, run_saw}
+use Rattle.cops_run_command.proofs.Recording.{run_inside, run_of, run_saw}
 
 -- a new world that takes the events
-answered : (s : AScenario) (c : AWorld) (d : Setting) (events : List Event) (outcomes : List Outcome) (end : World)
-    → ((t : Setting) (w : World) → IsSetting t → IsReached t w → HasAcceptedVerdict w.sessions)
-    → c ≡ opened_world (setting_of s) → d ≡ c.setting → IsSetting d → AnswersEach c.setting c.world events outcomes end → AreAnswers (setting_of s) events outcomes
-answered s c d events outcomes end law opened same legal ran =
-    let t = setting_of s in
-    let legal_t : IsSetting t = subst (λ (k : AWorld). IsSetting k.setting) opened (subst IsSetting same legal) in
-    let ran_t : AnswersEach t (opening t) events outcomes end = subst (λ (k : AWorld). AnswersEach k.setting k.world events outcomes end) opened ran in
-    (end, ran_t, law t end legal_t (events, outcomes, run_of t (opening t) events outcomes end ran_t))
+pub answered : (s : Setting) (old new : AWorld) (events : List Event) (outcomes : List Outcome) (h : Sessions) → old ≡ opened_world s → new.setting ≡ old.setting
+    → AnswersEach old.setting old.world events outcomes new.world → h ≡ new.world.sessions → HasAcceptedVerdict h → AreInFormat new.setting.format h → AreAnswers s events outcomes h
+answered s old new events outcomes h opened same ran is accepted fits = (
+  new.world,
+  subst (λ (k : AWorld). AnswersEach k.setting k.world events outcomes new.world) opened ran,
+  sym is,
+  accepted,
+  subst (λ (t : Setting). AreInFormat t.format h) (same ∙ ap (λ (k : AWorld). k.setting) opened) fits,
+)
 
-pub answered_if : (s : AScenario) (c : AWorld) (d : Setting) (events : List Event) (r : Result (Vec Outcome) Memory) (end : World)
-    → ((t : Setting) (w : World) → IsSetting t → IsReached t w → HasAcceptedVerdict w.sessions)
-    → c ≡ opened_world (setting_of s) → d ≡ c.setting → IsSetting d → IfOk r (λ outcomes. AnswersEach c.setting c.world events outcomes.items end)
-    → IfOk r (λ outcomes. AreAnswers (setting_of s) events outcomes.items)
-answered_if s c d events (Ok outcomes) end law opened same legal ran = answered s c d events outcomes.items end law opened same legal ran
-answered_if s c d events (Err e) end law opened same legal ran = tt
+seen_inside : (s : Setting) (events : List Event) (outcomes : List Outcome) (h : Sessions) → AreAnswers s events outcomes h → AreInside (length s.homes) (all_seen events outcomes)
+seen_inside s events outcomes h (end, ran, is, accepted, fits) =
+    subst (λ (n : ℕ). AreInside n (all_seen events outcomes)) (length-replicate (length s.homes) []) (run_inside s (opening s) events outcomes end (run_of s (opening s) events outcomes end ran))
+
+seen_sessions : (s : Setting) (events : List Event) (outcomes : List Outcome) (h : Sessions) → AreAnswers s events outcomes h → h ≡ sessions_after (replicate (length s.homes) []) (all_seen events outcomes)
+seen_sessions s events outcomes h (end, ran, is, accepted, fits) = sym is ∙ run_saw s (opening s) events outcomes end (run_of s (opening s) events outcomes end ran)
+
+-- the clients of what was seen are an order of the world's operations
+pub answers_order : (s : Setting) (events : List Event) (outcomes : List Outcome) (h : Sessions) (cs : List ℕ) → AreAnswers s events outcomes h → cs ≡ map (λ r. r.client) (all_seen events outcomes)
+    → IsOrder h cs × AreInFormat s.format h
+answers_order s events outcomes h cs a is = (
+  rw (seen_sessions s events outcomes h a, is) (order_again (length s.homes) (all_seen events outcomes) (seen_inside s events outcomes h a)),
+  a.4,
+)
 
 -- the trace of such events has the world's sessions
-pub event_run : (s : AScenario) (events : List Event) (outcomes : List Outcome) (lines : List ℕ) (t : ATrace) (n : ℕ) → AreAnswers (setting_of s) events outcomes
-    → n ≡ length s.clients → t ≡ record { format = s.format; clients = n; records = all_seen events outcomes } → lines ≡ outcome_lines outcomes
+pub event_run : (s : AScenario) (events : List Event) (outcomes : List Outcome) (lines : List ℕ) (h : Sessions) (cs : List ℕ) (t : ATrace) → AreAnswers (setting_of s) events outcomes h
+    → cs ≡ map (λ r. r.client) (all_seen events outcomes) → t ≡ trace_of s.format h cs → lines ≡ outcome_lines outcomes
     → IsEventRun s events lines t × HasAcceptedVerdict (sessions_of t)
-event_run s events outcomes lines t n (end, ran, accepted) count trace reported =
+event_run s events outcomes lines h cs t a is made reported =
     let records = all_seen events outcomes in
-    let start = opening (setting_of s) in
-    let homes : length (homes_of s) ≡ n = length-map s.clients (λ (k : ScriptedClient). k.at) ∙ sym count in
-    let saw_these : end.sessions ≡ sessions_of t =
-    run_saw (setting_of s) start events outcomes end (run_of (setting_of s) start events outcomes end ran) ∙ ap (λ (k : ℕ). sessions_after (replicate k []) records) homes ∙ ap (λ (u : ATrace). sessions_of u) (sym trace) in (
+    let n = length (homes_of s) in
+    let sessions = seen_sessions (setting_of s) events outcomes h a in
+    let again : t ≡ with_records s.format n records =
+    made ∙ ap (λ (g : Sessions). trace_of s.format g cs) sessions ∙ ap (trace_of s.format (sessions_after (replicate n []) records)) is
+    ∙ trace_again s.format n records (seen_inside (setting_of s) events outcomes h a) in
+    let same : h ≡ sessions_of t = sessions ∙ ap (λ (u : ATrace). sessions_of u) (sym again) in (
       record {
         outcomes = outcomes;
-        end = end;
-        ran = ran;
-        trace_is = trace ∙ ap (λ (k : ℕ). record { format = s.format; clients = k; records = records }) count;
-        saw_these = saw_these;
+        end = a.0;
+        ran = a.1;
+        trace_is = again ∙ ap (λ (k : ℕ). with_records s.format k records) (length-map s.clients (λ (k : ScriptedClient). k.at));
+        saw_these = a.2 ∙ same;
         lines_are = reported;
       },
-      subst HasAcceptedVerdict saw_these accepted,
+      subst HasAcceptedVerdict same a.3,
     )
 
 pub if_ok_both : {X E : Type 0} {P Q R : X → Type 0} (r : Result X E) → ((x : X) → P x → Q x → R x) → IfOk r P → IfOk r Q → IfOk r R

@@ -1,18 +1,17 @@
 //! Running an event list, in a world on one thread.
-ghost use Rattle.std.specs.Prelude.{◌≡◌, ◌++◌, Some, length, IfOk, OnOk};
+ghost use Rattle.std.specs.Prelude.{◌≡◌, [], ◌∷◌, Some, length, map, IfNone, IfOk, IfSome};
 ghost use Rattle.cops_scenario.specs.Scenario.{setting_of};
-ghost use Rattle.cops_types.specs.declared.op.Op.TheVariants.{Put as Wrote, Got};
 ghost use Rattle.cops_run_command.specs.Lines.{outcome_lines};
 ghost use Rattle.cops_run_command.specs.Parts.{AreAnswers, IsRunLeft};
 ghost use Rattle.cops_run_command.specs.Running.{all_seen, saw};
 ghost use Rattle.cops_core.specs.Acts.{act_of};
 
 use crate::leaving::{Left, reported_left};
-use cops_core::{Event, World, every_interleaving_is_accepted};
+use cops_core::{Event, World};
 use cops_node::Outcome;
 use cops_scenario::{Scenario, outcome_line};
 use cops_trace::Trace;
-use cops_types::{Format, Key, Memory, Op, Value, Version};
+use cops_types::{History, Memory};
 use std::alloc::Global;
 
 /// Runs the events in a world of the scenario. Prints one line for each event. Returns `Memory` when memory runs out.
@@ -24,21 +23,26 @@ pub(crate) fn run_events(
     requires { scenario.now.events ≡ Some events.now }
     ensures { IfOk result (IsRunLeft scenario.now) }
 {
-    let clients = scenario.clients().len() as u16;
-    let outcomes = answers(alloc, scenario, events)?;
+    let (outcomes, history) = answers(alloc, scenario, events)?;
     let lines = lines(alloc, &outcomes)?;
-    let trace = recorded(alloc, scenario.format(), clients, events, &outcomes)?;
-    Ok(reported_left(alloc, lines, trace)?)
+    let arrivals = arrivals(alloc, events, &outcomes)?;
+    match Trace::of(scenario.format(), history, arrivals)? {
+        Some(trace) => Ok(reported_left(alloc, lines, trace)?),
+        None => unreachable!(),
+    }
 }
 
-/// The outcomes of the events in a world of the scenario. Whatever the events are, the verdict on what its clients saw
-/// is accepted.
-fn answers(alloc: Global, scenario: &Scenario, events: &[Event]) -> Result<Vec<Outcome>, Memory>
-    ensures { IfOk result (λ outcomes. AreAnswers (setting_of scenario.now) events.now outcomes.items) }
+/// The outcomes of the events in a world of the scenario, and what its clients saw.
+fn answers(
+    alloc: Global,
+    scenario: &Scenario,
+    events: &[Event],
+) -> Result<(Vec<Outcome>, History), Memory>
+    ensures { IfOk result (λ (outcomes, history). AreAnswers (setting_of scenario.now) events.now outcomes.items history.sessions) }
 {
-    every_interleaving_is_accepted();
     let mut world = World::of(alloc, scenario.setting(alloc)?)?;
-    world.run(events)
+    let outcomes = world.run(events)?;
+    Ok((outcomes, world.into_history()))
 }
 
 /// One line for each event.
@@ -52,89 +56,32 @@ fn lines(alloc: Global, outcomes: &[Outcome]) -> Result<Vec<u8>, Memory>
     Ok(text)
 }
 
-/// The trace of what the clients saw, in the order of the events.
-fn recorded(
-    alloc: Global,
-    format: Format,
-    clients: u16,
-    events: &[Event],
-    outcomes: &[Outcome],
-) -> Result<Trace, Memory>
+/// The clients of the operations that clients saw, in the order of the events.
+fn arrivals(alloc: Global, events: &[Event], outcomes: &[Outcome]) -> Result<Vec<u16>, Memory>
     requires { length outcomes.now ≡ length events.now }
-    ensures { IfOk result (λ trace. trace ≡ record { format = format; clients = clients; records = all_seen events.now outcomes.now }) }
+    ensures { IfOk result (λ clients. clients.items ≡ map (λ r. r.client) (all_seen events.now outcomes.now)) }
 {
-    let mut trace = Trace::new_in(format, alloc, clients)?;
+    let mut clients = Vec::new(alloc);
     for n in 0..events.len() {
-        record(&mut trace, &events[n], &outcomes[n])?;
+        if let Some(client) = seen_by(&events[n], &outcomes[n]) {
+            clients.push(client)?;
+        }
     }
-    Ok(trace)
+    Ok(clients)
 }
 
-/// Records the operation that a client saw of an event, if any. The world takes no more operations than a trace does,
-/// and its outcomes are in its format.
-fn record(trace: &mut Trace, event: &Event, outcome: &Outcome) -> Result<(), Memory>
-    ensures { OnOk result (trace.new ≡ record { format = trace.old.format; clients = trace.old.clients; records = trace.old.records ++ saw (act_of event.now) outcome.now }) }
+/// The client that saw an operation of an event with this outcome, if one did.
+fn seen_by(event: &Event, outcome: &Outcome) -> Option<u16>
+    ensures some { IfSome result (λ client. map (λ r. r.client) (saw (act_of event.now) outcome.now) ≡ client ∷ []) }
+    ensures none { IfNone result (saw (act_of event.now) outcome.now ≡ []) }
 {
-    let (client, op) = match (event, outcome) {
+    match (event, outcome) {
         (
-            Event::Put { client, key, value },
-            Outcome::PutDone(version) | Outcome::Deleted(version),
-        ) => { (*client, put(key, value, *version)?) }
-        (Event::Del { client, key }, Outcome::PutDone(version) | Outcome::Deleted(version)) => {
-            let key = key.clone()?;
-            (
-                *client,
-                Op::Del {
-                    key,
-                    version: *version,
-                },
-            )
-        }
-        (Event::Get { client, key }, Outcome::Gone(version)) => {
-            let key = key.clone()?;
-            (
-                *client,
-                Op::Gone {
-                    key,
-                    version: *version,
-                },
-            )
-        }
-        (Event::Get { client, key }, Outcome::Got(value, version)) => {
-            (*client, got(key, value, *version)?)
-        }
-        (Event::Get { client, key }, Outcome::Missed) => (
-            *client,
-            Op::Missed { key: key.clone()? },
-        ),
-        _ => return Ok(()),
-    };
-    if !op.in_format(trace.format()) {
-        drop(op);
-        return Err(Memory);
+            Event::Put { client, .. } | Event::Del { client, .. },
+            Outcome::PutDone(_) | Outcome::Deleted(_),
+        )
+        | (Event::Get { client, .. }, Outcome::Got(..) | Outcome::Gone(_) | Outcome::Missed) =>
+            Some(*client),
+        _ => None,
     }
-    match trace.push(client, op) {
-        Ok(()) => Ok(()),
-        Err(_) => Err(Memory),
-    }
-}
-
-fn put(key: &Key, value: &Value, version: Version) -> Result<Op, Memory>
-    ensures { IfOk result (λ op. op ≡ Wrote key.now value.now version) }
-{
-    Ok(Op::Put {
-        key: key.clone()?,
-        value: value.clone()?,
-        version,
-    })
-}
-
-fn got(key: &Key, value: &Value, version: Version) -> Result<Op, Memory>
-    ensures { IfOk result (λ op. op ≡ Got key.now value.now version) }
-{
-    Ok(Op::Got {
-        key: key.clone()?,
-        value: value.clone()?,
-        version,
-    })
 }

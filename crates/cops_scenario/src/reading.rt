@@ -1,5 +1,5 @@
 //! Reading a scenario from its JSON text.
-ghost use Rattle.std.specs.Prelude.{◌≡◌, ◌≢◌, ◌≤◌, ◌<◌, ◌⊎◌, List, [], ℕ, length, map, codes, All, Option, None, Some, Err, IfOk, IfSome, OnOk, OnErr, IsSome, unwrap_or, option_map};
+ghost use Rattle.std.specs.Prelude.{◌≡◌, ◌≢◌, ◌≤◌, ◌<◌, List, [], ℕ, length, map, codes, All, Option, None, Some, Err, IfOk, IfSome, OnOk, OnErr, IsSome, option_map};
 ghost use Rattle.std.specs.Bool.{OnFalse, OnTrue};
 ghost use Rattle.serde_json.specs.Data.{Data};
 ghost use Rattle.serde_json.specs.View.{view};
@@ -9,7 +9,7 @@ ghost use Rattle.cops_scenario.specs.declared.fault.Field.{Field as AField};
 ghost use Rattle.serde_json.specs.Find.{get};
 ghost use Rattle.cops_types.specs.declared.limits.TheConstants.{MAX_DCS};
 ghost use Rattle.cops_scenario.specs.declared.scenario.TheConstants.{MAX_CLIENTS, MAX_EVENTS};
-ghost use Rattle.cops_scenario.specs.Fields.{format_at, name_of, number_at, range_of};
+ghost use Rattle.cops_scenario.specs.Fields.{format_at, number_at, range_of};
 ghost use Rattle.cops_types.specs.Format.{number_of as number_in};
 ghost use Rattle.cops_scenario.specs.Limits.{AreLegalEvents, AreSplits, IsClientOf, IsLegalClient, IsLegalScenario};
 ghost use Rattle.cops_core.specs.declared.event.Event.{Event as AnEvent};

@@ -44,10 +44,10 @@ not_home xs number dcs dc x e far (client, found, home, near) = let s : x ≡ cl
 set_there : {X : Type 0} (xs : List X) (number place : ℕ) (x : X) → place ≡ number → slice_set xs place x ≡ slice_set xs number x
 set_there xs number place x e = ap (λ (n : ℕ). slice_set xs n x) e
 
--- putting an element that was borrowed from its place back after it changed by `Did`
-pub changed : {X : Type 0} (Did : X → X → Type 0) (xs : List X) (number place : ℕ) (before after : X) → place ≡ number → (place < length xs) × ((d : X) → before ≡ slice_index_or xs place d) → Did before after
-    → (x : X) × (y : X) × (slice_get xs number ≡ Some x) × (slice_set xs place after ≡ slice_set xs number y) × Did x y
-changed Did xs number place before after e lent did = (before, after, there xs number place before e lent, set_there xs number place after e, did)
+-- putting an element that was borrowed from its place back after it changed by `IfGreeted`
+pub changed : {X : Type 0} (IfGreeted : X → X → Type 0) (xs : List X) (number place : ℕ) (before after : X) → place ≡ number → (place < length xs) × ((d : X) → before ≡ slice_index_or xs place d) → IfGreeted before after
+    → (x : X) × (y : X) × (slice_get xs number ≡ Some x) × (slice_set xs place after ≡ slice_set xs number y) × IfGreeted x y
+changed IfGreeted xs number place before after e lent did = (before, after, there xs number place before e lent, set_there xs number place after e, did)
 
 -- writing copies of the key and the value
 pub put_of : (c : Cluster) (key value k v : List ℕ) (out : Outcome) (before after : Client) → k ≡ key → v ≡ value → HasWritten c k (Some v) out before after
@@ -120,14 +120,14 @@ asked_of c dc key version out client lent after e owner reported = (
 )
 
 -- recording a call afterwards changes no client
-pub noted : (old mid new : FrontEnd) (Nobody : Type 0) (Did : Greeted → Client → Client → Type 0) → DoneByGreeted old Nobody Did mid → IsSame mid new
-    → DoneByGreeted old Nobody Did new
-noted old mid new Nobody Did (session, did) ((turns, cluster, senders, receivers, greeted, ended), clients) = (
+pub recorded_call : (old mid new : FrontEnd) (IfNotGreeted : Type 0) (IfGreeted : Greeted → Client → Client → Type 0) → DoneByGreeted old IfNotGreeted IfGreeted mid → IsSame mid new
+    → DoneByGreeted old IfNotGreeted IfGreeted new
+recorded_call old mid new IfNotGreeted IfGreeted (session, did) ((turns, cluster, senders, receivers, greeted, ended), clients) = (
   (turns ∙ session.0, cluster ∙ session.1, senders ∙ session.2, receivers ∙ session.3, greeted ∙ session.4, ended ∙ session.5),
   subst (λ (v : Vec Client).
-      MatchOption old.greeted (Nobody × (v ≡ old.clients)) (λ g.
+      MatchOption old.greeted (IfNotGreeted × (v ≡ old.clients)) (λ g.
       (before : Client) × (after : Client)
       × (slice_get old.clients.items g.client ≡ Some before)
       × (v.items ≡ slice_set old.clients.items g.client after)
-      × Did g before after)) (sym clients) did,
+      × IfGreeted g before after)) (sym clients) did,
 )

@@ -40,13 +40,13 @@ IsSameSession old new =
 abbrev pub IsSame : FrontEnd → FrontEnd → Type 0
 IsSame old new = IsSameSession old new × (new.clients ≡ old.clients)
 
--- the client of this number changed by `Did`, and no other client changed
+-- the client of this number changed by `IfGreeted`, and no other client changed
 abbrev pub ChangesBy : FrontEnd → ℕ → (Client → Client → Type 0) → FrontEnd → Type 0
-ChangesBy old number Did new =
+ChangesBy old number IfGreeted new =
     (before : Client) × (after : Client)
     × (slice_get old.clients.items number ≡ Some before)
     × (new.clients.items ≡ slice_set old.clients.items number after)
-    × Did before after
+    × IfGreeted before after
 
 -- ---- greetings
 
@@ -96,11 +96,11 @@ HasAsked c dc key version out before after =
     × (after.share.holder ≡ before.share.holder)
     × Adds before.share.entries.items after.share.entries.items (node_of c dc key) (Ask key version) out
 
--- The client that has greeted changed by `Did`, or no client has greeted and `Nobody` holds. No other client changed.
+-- The client that has greeted changed by `IfGreeted`, or no client has greeted and `IfNotGreeted` holds. No other client changed.
 abbrev pub DoneByGreeted : FrontEnd → Type 0 → (Greeted → Client → Client → Type 0) → FrontEnd → Type 0
-DoneByGreeted old Nobody Did new =
+DoneByGreeted old IfNotGreeted IfGreeted new =
     IsSameSession old new
-    × MatchOption old.greeted (Nobody × (new.clients ≡ old.clients)) (λ g. ChangesBy old g.client (Did g) new)
+    × MatchOption old.greeted (IfNotGreeted × (new.clients ≡ old.clients)) (λ g. ChangesBy old g.client (IfGreeted g) new)
 
 -- The client that has greeted writes a content with this outcome. Where no client has greeted, the write is refused with 3 (`UnknownClient`).
 abbrev pub WritesAs : FrontEnd → List ℕ → Option (List ℕ) → Outcome → FrontEnd → Type 0

@@ -73,9 +73,9 @@ impl FrontEnd {
     ghost use Rattle.cops_serve.specs.Replying.{IsOutcomeIn, IsWriteReply};
 
     /// Records a call with its answer. Everything else stays unchanged.
-    fn note(&mut self, call: Call)
+    fn record_call(&mut self, call: Call)
         requires { vec_len self.old.calls < vec_capacity self.old.calls }
-        ensures noted { self.new.calls.items ≡ self.old.calls.items ++ call ∷ [] }
+        ensures recorded { self.new.calls.items ≡ self.old.calls.items ++ call ∷ [] }
         ensures same { IsSame self.old self.new }
     {
         self.calls.push_reserved(call);
@@ -176,7 +176,7 @@ impl FrontEnd {
     /// Makes one turn of every sender and then of every receiver. Returns whether any of them did something, or ran out
     /// of memory. No client changes.
     fn round<R: Wait>(&mut self, rt: &R) -> bool
-        ensures noted { self.new.calls.items ≡ self.old.calls.items }
+        ensures recorded { self.new.calls.items ≡ self.old.calls.items }
         ensures clients { (self.new.clients ≡ self.old.clients) × (self.new.greeted ≡ self.old.greeted) }
         ensures same { (self.new.turns ≡ self.old.turns) × (self.new.cluster ≡ self.old.cluster)
             × (self.new.ended ≡ self.old.ended) }
@@ -233,20 +233,20 @@ impl Session for FrontEnd {
     fn hello(&mut self, client: u16) -> Result<(u8, u8), Refusal> {
         let Some(greeted) = self.home_of(client) else {
             let answer = Err(Refusal::UnknownClient);
-            self.note(Call::Hello { client, answer });
+            self.record_call(Call::Hello { client, answer });
             return Err(Refusal::UnknownClient);
         };
         let nodes = self.cluster.nodes();
         self.greeted = Some(greeted);
         let answer = Ok((greeted.dc, nodes));
-        self.note(Call::Hello { client, answer });
+        self.record_call(Call::Hello { client, answer });
         Ok((greeted.dc, nodes))
     }
 
     fn put<R: Wait>(&mut self, rt: &R, key: Key, value: Value) -> Reply {
         let replies = self.write_reply(rt, &key, Some(&value));
         let answer = replies.kept;
-        self.note(Call::Put { key, value, answer });
+        self.record_call(Call::Put { key, value, answer });
         replies.reported
     }
 
@@ -255,7 +255,7 @@ impl Session for FrontEnd {
         let Some(room) = self.room.take() else {
             unreachable!()
         };
-        self.note(Call::Del {
+        self.record_call(Call::Del {
             key: room.key.copy(key),
             answer: replies.kept,
         });
@@ -268,7 +268,7 @@ impl Session for FrontEnd {
             unreachable!()
         };
         let replies = get_replies(self.format, room.value, outcome);
-        self.note(Call::Get {
+        self.record_call(Call::Get {
             key: room.key.copy(key),
             answer: replies.kept,
         });
@@ -280,7 +280,7 @@ impl Session for FrontEnd {
         let Some(room) = self.room.take() else {
             unreachable!()
         };
-        self.note(Call::DepCheck {
+        self.record_call(Call::DepCheck {
             key: room.key.copy(key),
             version,
             answer: replies.kept,
@@ -293,7 +293,7 @@ impl Session for FrontEnd {
             Some(greeted) => self.cluster.status(rt, greeted.dc, place),
             None => None,
         };
-        self.note(Call::Status { place, answer });
+        self.record_call(Call::Status { place, answer });
         answer
     }
 

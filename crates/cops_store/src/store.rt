@@ -33,7 +33,7 @@ impl Model for Store {
 impl Store {
     ghost use Rattle.std.specs.Prelude.{◌≡◌, length, [], true, false, IsOk, IfOk, OnOk, OnErr, option_copied};
     ghost use Rattle.std.specs.Option.{option_map};
-    ghost use Rattle.cops_store.specs.Store.{Stored, has_pair, with_settled, shown};
+    ghost use Rattle.cops_store.specs.Store.{has_pair, with_settled, shown};
     ghost use Rattle.cops_store.specs.Settling.{shown_keys, settling};
 
     /// An empty store. It allocates no memory.

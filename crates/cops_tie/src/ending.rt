@@ -1,5 +1,5 @@
 //! Whether the clients' outcomes fit their sessions and the world in which a run ends.
-ghost use Rattle.std.specs.Prelude.{◌≡◌, ◌≢◌, ◌≤◌, ◌↔◌, IfOk, IsTrue, length, slice_get, slice_index_or, [], option_copied};
+ghost use Rattle.std.specs.Prelude.{◌≡◌, ◌≢◌, ◌↔◌, IfOk, IsTrue, slice_index_or, [], option_copied};
 ghost use Rattle.cops_types.specs.declared.refusal.Refusal.TheVariants.{Memory as OutOfMemory};
 ghost use Rattle.cops_types.specs.OpRefs.{seen as seen_op};
 ghost use Rattle.cops_node.specs.declared.outcome.Outcome.TheVariants.{Refused};

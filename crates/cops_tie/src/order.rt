@@ -30,30 +30,14 @@ pub fn in_order<'a>(
     ensures all { IfOk result (λ order. IsPermutation (placed nodes 0 (map (λ b. b.items) books.now)) (map shown order.items)) }
     ensures never_falls { IfOk result (λ order. AllPairs (λ p q. ticket p ≤ ticket q) (map shown order.items)) }
 {
-    let mut order = unordered(alloc, dcs, nodes, books)?;
-    order.sort_by_key(|entry| entry.ticket)?;
-    Ok(order)
-}
-
-/// The entries of books, book by book.
-fn unordered<'a>(
-    alloc: Global,
-    dcs: u8,
-    nodes: u8,
-    books: &'a [Vec<Entry>],
-) -> Result<Vec<Ticketed<'a>>, AllocError>
-    requires nodes { 0 < nodes }
-    requires books { length books.now ≡ dcs * nodes }
-    ensures entries { IfOk result (λ entries. map shown entries.items ≡ placed nodes 0 (map (λ b. b.items) books.now)) }
-    ensures tickets { IfOk result (λ entries. All HasItsTicket entries.items) }
-{
-    let mut entries = Vec::new(alloc);
+    let mut order = Vec::new(alloc);
     for n in 0..books.len() {
         let dc = n / nodes as usize;
         let place = n % nodes as usize;
-        add_book(&mut entries, dc as u8, place as u8, &books[n])?;
+        add_book(&mut order, dc as u8, place as u8, &books[n])?;
     }
-    Ok(entries)
+    order.sort_by_key(|entry| entry.ticket)?;
+    Ok(order)
 }
 
 /// Adds the entries of one book.

@@ -1,5 +1,5 @@
 //! Whether the data centres have converged.
-ghost use Rattle.std.specs.Prelude.{◌≡◌, ◌↔◌, IsTrue};
+ghost use Rattle.std.specs.Prelude.{◌↔◌, IsTrue};
 ghost use Rattle.cops_tie.specs.Runs.{IsConverged, IsEverywhere};
 
 use cops_core::World;

@@ -33,9 +33,6 @@ take_whole {A = A} (x ∷ xs) (suc n) same = ap (λ (l : List A). x ∷ l) (take
 pub from_place : (bytes : List ℕ) (at : ℕ) → take (length bytes - at) (drop at bytes) ≡ drop at bytes
 from_place bytes at = take_whole (drop at bytes) (length bytes - at) (length-drop at bytes)
 
-pub none_seen : (format : Format) (bytes : List ℕ) → AreSeen format bytes [] []
-none_seen format bytes = record { few = omega arith; each = λ k d e less. absurd (omega (arith, less)) }
-
 get_at_end : {A : Type 0} (xs : List A) (x d : A) → get_or (xs ++ x ∷ []) (length xs) d ≡ x
 get_at_end [] x d = refl
 get_at_end (y ∷ xs) x d = get_at_end xs x d

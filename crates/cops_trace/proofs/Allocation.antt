@@ -28,8 +28,8 @@ IsTrace-grown t r h client op room all_room = record {
 }
 
 -- the first records of a trace are a trace
-pub IsTrace-front : (format : Format) (c : ℕ) (xs ys : List ARecord) → IsTrace (with_records format c (xs ++ ys)) → IsTrace (with_records format c xs)
-IsTrace-front format c xs ys h = record {
+pub IsTrace-prefix : (format : Format) (c : ℕ) (xs ys : List ARecord) → IsTrace (with_records format c (xs ++ ys)) → IsTrace (with_records format c xs)
+IsTrace-prefix format c xs ys h = record {
   clients = h.clients;
   named = all_prefix (λ (s : ARecord). (s.client < c) × IsOp format s.op) xs ys h.named;
   each = λ d. omega (arith, turn-append d xs ys, h.each d);

@@ -15,7 +15,7 @@ use Rattle.cops_trace.specs.declared.found.Found.{Found}
 use Rattle.cops_trace.specs.declared.found.Found.TheVariants.{Gives, Waits, Fails}
 use Rattle.cops_trace.specs.Text.{ATrace, IsTrace, beginning, text, end_text}
 use Rattle.cops_trace.specs.Next.{Progress, Stands}
-use Rattle.cops_trace.specs.Answer.{progress_of, progress_at, front, Begins, HasFault, Says, IsCutAfter, BeginsAs, Agrees, TakesFrom}
+use Rattle.cops_trace.specs.Answer.{progress_at, text_before, Begins, HasFault, Says, IsCutAfter, BeginsAs, Agrees, TakesFrom}
 use Rattle.cops_trace.specs.Answer as answer
 use Rattle.cops_trace.specs.Parsing.{ParseState, progress_with, progress_in, with_item, is_end, after, FailsAt, StepGives, FedTo, Fed, IsSettledAt, IsSettled, HasFailed, Stops}
 use Rattle.cops_trace.proofs.Lists.{nothing_before}
@@ -31,17 +31,17 @@ IsBytes-append (x ∷ xs) ys h k (suc i) = IsBytes-append xs ys (λ j. h (suc j)
 
 -- ---- a state and its offset
 
-progress_is : (s : ParseState) → s.at ≡ length (front s.begun) → progress_in s ≡ progress_at s.begun
+progress_is : (s : ParseState) → s.at ≡ length (text_before s.begun) → progress_in s ≡ progress_at s.begun
 progress_is s e = go s.begun s.at e
   where
-    go : (b : Option ATrace) (at : ℕ) → at ≡ length (front b) → progress_in (record { begun = b; at = at; ended = false; rest = [] }) ≡ progress_at b
+    go : (b : Option ATrace) (at : ℕ) → at ≡ length (text_before b) → progress_in (record { begun = b; at = at; ended = false; rest = [] }) ≡ progress_at b
     go None at e = refl
     go (Some t) at e = ap (λ (n : ℕ). Some (progress_with n t)) e
 
 -- the state before the end
 record Open (fed : List ℕ) (s : ParseState) : Type 0 where
   begins : Begins fed s.begun s.rest
-  place : s.at ≡ length (front s.begun)
+  place : s.at ≡ length (text_before s.begun)
 
 open_of : (fed : List ℕ) (s : ParseState) → Fed fed s → s.ended ≡ false → Open fed s
 open_of fed s h e = let o = subst (FedTo fed s) e h.state in record { begins = o.0; place = o.1 }
@@ -56,7 +56,7 @@ pub fed_more : (fed piece : List ℕ) (s : ParseState) → IsBytes piece → Fed
 fed_more fed piece s fits h = record { fits = IsBytes-append fed piece h.fits fits; state = go s.ended h.state }
   where
     go : (e : Bool) → FedTo fed s e → FedTo (fed ++ piece) (record s { rest = s.rest ++ piece }) e
-    go false o = (record { is_trace = o.0.is_trace; parts = ap (λ (x : List ℕ). x ++ piece) o.0.parts ∙ append_assoc (front s.begun) s.rest piece }, o.1)
+    go false o = (record { is_trace = o.0.is_trace; parts = ap (λ (x : List ℕ). x ++ piece) o.0.parts ∙ append_assoc (text_before s.begun) s.rest piece }, o.1)
     go true o = (o.0, o.1, o.2, ap (λ (x : List ℕ). x ++ piece) o.3 ∙ append_assoc (text o.0) s.rest piece, o.4)
 
 -- ---- taking an item
@@ -68,13 +68,13 @@ item_taken fed s i used false k o st =
     let m = encoded (item_message (progress_at s.begun) i) in (
       record {
         is_trace = trace_with s.begun i o.begins.is_trace st.allowed st.legal k;
-        parts = o.begins.parts ∙ ap (λ (x : List ℕ). front s.begun ++ x) st.parts_are ∙ sym (append_assoc (front s.begun) m (drop used s.rest)) ∙ ap (λ (x : List ℕ). x ++ drop used s.rest) (sym grows);
+        parts = o.begins.parts ∙ ap (λ (x : List ℕ). text_before s.begun ++ x) st.parts_are ∙ sym (append_assoc (text_before s.begun) m (drop used s.rest)) ∙ ap (λ (x : List ℕ). x ++ drop used s.rest) (sym grows);
       },
-      omega (arith, o.place, st.used_is, ap length grows, length-append (front s.begun) m),
+      omega (arith, o.place, st.used_is, ap length grows, length-append (text_before s.begun) m),
     )
 item_taken fed s i used true k o st = go s.begun i used k o.begins.is_trace st o.begins.parts o.place
   where
-    go : (b : Option ATrace) (i : Item) (used : ℕ) → is_end i ≡ true → IfSome b IsTrace → Stood (progress_at b) s.rest i used → fed ≡ front b ++ s.rest → s.at ≡ length (front b)
+    go : (b : Option ATrace) (i : Item) (used : ℕ) → is_end i ≡ true → IfSome b IsTrace → Stood (progress_at b) s.rest i used → fed ≡ text_before b ++ s.rest → s.at ≡ length (text_before b)
         → FedTo fed (record { begun = with_item i b; at = s.at + used; ended = true; rest = drop used s.rest }) true
     go (Some t) End used k is st parts place = (
       t,
@@ -103,7 +103,7 @@ fed_fault fed s e more h going st =
     inl (record {
       begun = s.begun;
       rest = s.rest ++ more;
-      begins = record { is_trace = o.begins.is_trace; parts = ap (λ (x : List ℕ). x ++ more) o.begins.parts ∙ append_assoc (front s.begun) s.rest more };
+      begins = record { is_trace = o.begins.is_trace; parts = ap (λ (x : List ℕ). x ++ more) o.begins.parts ∙ append_assoc (text_before s.begun) s.rest more };
       stands = stands_still (progress_at s.begun) s.rest more (Fails e) (λ q. cc) (stands_at fed s (Fails e) o st);
     })
 
@@ -177,19 +177,12 @@ step_less s new st =
 
 -- ---- the greatest number of bytes
 
-pub fed_len : (fed : List ℕ) (s : ParseState) → Fed fed s → s.at + length s.rest ≡ length fed
-fed_len fed s h = go s.ended h.state
-  where
-    go : (e : Bool) → FedTo fed s e → s.at + length s.rest ≡ length fed
-    go false o = omega (arith, o.1, ap length o.0.parts, length-append (front s.begun) s.rest)
-    go true o = omega (arith, o.4, ap length o.3, length-append (text o.0) s.rest)
-
 -- if the rest has no whole item, there are fewer bytes than the most reads
 pub settled_len : (fed : List ℕ) (s : ParseState) → Fed fed s → IsSettled s → length fed < 2199023255552
 settled_len fed s h settled = go s.ended h.state settled
   where
     go : (e : Bool) → FedTo fed s e → IsSettledAt e s → length fed < 2199023255552
-    go false o st = omega (arith, ap length o.0.parts, length-append (front s.begun) s.rest, prefix_len s.begun o.0.is_trace, waits_len (progress_in s) s.rest st)
+    go false o st = omega (arith, ap length o.0.parts, length-append (text_before s.begun) s.rest, prefix_len s.begun o.0.is_trace, waits_len (progress_in s) s.rest st)
     go true o none = omega (arith, ap length o.3, length-append (text o.0) s.rest, ap length none, text_len o.0 o.2)
 
 pub none_settled : IsSettled (record { begun = None; at = 0; ended = false; rest = [] })

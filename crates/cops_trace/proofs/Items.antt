@@ -32,7 +32,7 @@ use Rattle.cops_trace.specs.declared.found.Found.{Found}
 use Rattle.cops_trace.specs.declared.found.Found.TheVariants.{Gives, Waits, Fails}
 use Rattle.cops_trace.specs.Text.{ATrace, IsTrace, IsOp, turn}
 use Rattle.cops_trace.specs.Next.{Progress, FrameIs, Stands, found_in, unread, first_message, head_found, later_message, found_among, format_next, record_found, end_found}
-use Rattle.cops_trace.specs.Answer.{front, progress_at}
+use Rattle.cops_trace.specs.Answer.{text_before, progress_at}
 use Rattle.cops_trace.specs.Parsing.{with_item, is_end}
 use Rattle.cops_trace.proofs.Allocation.{beginning-none, beginning-grown, IsTrace-none, IsTrace-grown}
 
@@ -373,7 +373,7 @@ op_legal One c i (read key None version) cl il h = absurd h.1
 op_legal Two c i (write key None version) cl il h = (cl, (il, ((omega (arith, h.0.1), omega (arith, h.0.0), h.0.1), (h.2, tt))))
 op_legal Two c i (read key None version) cl il h = (cl, (il, ((omega (arith, h.0.1), omega (arith, h.0.0), h.0.1), (h.2, tt))))
 
-pub prefix_with : (b : Option ATrace) (i : Item) → Allows (progress_at b) i → is_end i ≡ false → front (with_item i b) ≡ front b ++ encoded (item_message (progress_at b) i)
+pub prefix_with : (b : Option ATrace) (i : Item) → Allows (progress_at b) i → is_end i ≡ false → text_before (with_item i b) ≡ text_before b ++ encoded (item_message (progress_at b) i)
 prefix_with None (Head format clients) h k = beginning-none format clients
 prefix_with (Some t) (Entry client op) h k = beginning-grown t (record { client = client; op = operation_of op })
 prefix_with (Some t) End h k = absurd cc

@@ -1,5 +1,5 @@
 -- A trace stored as sessions and arrivals.
-use Rattle.std.proofs.Common.{◌≡◌, ◌≢◌, ℕ, zero, suc, ◌+◌, ◌^◌, ◌<◌, ◌≤◌, ◌↔◌, cond, eqb, List, [], ◌∷◌, ◌++◌, length, get_or, refl, sym, ap, subst, ◌∙◌, append_assoc, arith, inl, inr, replicate, get_or-set_same, get_or-set_other, Option, Some, None}
+use Rattle.std.proofs.Common.{◌≡◌, ◌≢◌, ℕ, zero, suc, ◌+◌, ◌^◌, ◌<◌, ◌≤◌, ◌↔◌, cond, eqb, List, [], ◌∷◌, ◌++◌, length, map, get_or, refl, sym, ap, subst, ◌∙◌, append_assoc, arith, inl, inr, replicate, get_or-set_same, get_or-set_other, Option, Some, None}
 use Rattle.std.specs.List.{AllByRecursion}
 use Rattle.std.proofs.Math.ListN.{set, length-set}
 use Rattle.std.proofs.lemmas.Bool.{eqb-false, eq-eqb}
@@ -14,15 +14,27 @@ use Rattle.cops_types.specs.Recorded as types
 use Rattle.cops_types.proofs.Sessions.{count-with_op, count-none}
 use Rattle.cops_trace.specs.Text.{ARecord, ATrace, IsTrace, IsOp, turn, sessions_after, sessions_of}
 use Rattle.cops_trace.specs.Converting.{in_format_2}
-use Rattle.cops_trace.specs.Kept.{op_in, records_from, trace_of, IsKept, IsFull, grown}
+use Rattle.cops_trace.specs.Kept.{op_in, records_from, trace_of, IsKept, IsFull, IsOrder, grown}
 use Rattle.cops_trace.proofs.Lists.{same_or_other, turn-cons, times, times-append, times-cons, times-same}
 use Rattle.cops_trace.proofs.Allocation.{IsTrace-grown, IsTrace-none, with_records}
 
 -- ---- the sessions that records make
 
--- each record's client is below the number of clients
-abbrev AreNamed : Format → ℕ → List ARecord → Type 0
+-- each record's client is below the number of clients, and its operation has an encoding
+abbrev pub AreNamed : Format → ℕ → List ARecord → Type 0
 AreNamed format n rs = AllByRecursion (λ r. (r.client < n) × IsOp format r.op) rs
+
+-- each record's client is below the number of clients
+abbrev pub AreInside : ℕ → List ARecord → Type 0
+AreInside n rs = AllByRecursion (λ r. r.client < n) rs
+
+named_inside : (format : Format) (n : ℕ) (rs : List ARecord) → AreNamed format n rs → AreInside n rs
+named_inside format n [] named = tt
+named_inside format n (r ∷ rs) named = (named.0.0, named_inside format n rs named.1)
+
+pub after_width : (h : Sessions) (rs : List ARecord) → length (sessions_after h rs) ≡ length h
+after_width h [] = refl
+after_width h (r ∷ rs) = after_width (with_op h r.client r.op) rs ∙ length-set h r.client _
 
 session_len : (h : Sessions) (i c : ℕ) (op : Operation) → i < length h → length (get_or (with_op h i op) c []) ≡ length (get_or h c []) + cond (eqb i c) 1 0
 session_len h i c op inside =
@@ -38,19 +50,19 @@ session_len h i c op inside =
           rw p (omega (arith, there))
     ]
 
-pub after_len : (format : Format) (n : ℕ) (h : Sessions) (rs : List ARecord) (c : ℕ) → length h ≡ n → AreNamed format n rs → length (get_or (sessions_after h rs) c []) ≡ length (get_or h c []) + turn c rs
-after_len format n h [] c width named = omega arith
-after_len format n h (r ∷ rs) c width named =
-    let inside : r.client < length h = omega (arith, named.0.0) in
-    let ih = after_len format n (with_op h r.client r.op) rs c (length-set h r.client _ ∙ width) named.1 in
-    omega (arith, ih, session_len h r.client c r.op inside, turn-cons c r rs)
+pub after_len : (h : Sessions) (rs : List ARecord) (c : ℕ) → AreInside (length h) rs → length (get_or (sessions_after h rs) c []) ≡ length (get_or h c []) + turn c rs
+after_len h [] c inside = omega arith
+after_len h (r ∷ rs) c inside =
+    let g = with_op h r.client r.op in
+    let later : AreInside (length g) rs = subst (λ (n : ℕ). AreInside n rs) (sym (length-set h r.client _)) inside.1 in
+    omega (arith, after_len g rs c later, session_len h r.client c r.op inside.0, turn-cons c r rs)
 
-pub after_count : (format : Format) (n : ℕ) (h : Sessions) (rs : List ARecord) → length h ≡ n → AreNamed format n rs → count_of (sessions_after h rs) ≡ count_of h + length rs
-after_count format n h [] width named = omega arith
-after_count format n h (r ∷ rs) width named =
-    let inside : r.client < length h = omega (arith, named.0.0) in
-    let ih = after_count format n (with_op h r.client r.op) rs (length-set h r.client _ ∙ width) named.1 in
-    omega (arith, ih, count-with_op h r.client r.op inside)
+pub after_count : (h : Sessions) (rs : List ARecord) → AreInside (length h) rs → count_of (sessions_after h rs) ≡ count_of h + length rs
+after_count h [] inside = omega arith
+after_count h (r ∷ rs) inside =
+    let g = with_op h r.client r.op in
+    let later : AreInside (length g) rs = subst (λ (n : ℕ). AreInside n rs) (sym (length-set h r.client _)) inside.1 in
+    omega (arith, after_count g rs later, count-with_op h r.client r.op inside.0)
 
 pub after_push : (h : Sessions) (rs : List ARecord) (r : ARecord) → sessions_after h (rs ++ r ∷ []) ≡ with_op (sessions_after h rs) r.client r.op
 after_push h [] r = refl
@@ -61,13 +73,16 @@ none zero c = refl
 none (suc n) zero = refl
 none (suc n) (suc c) = none n c
 
+-- the clients of a trace's records are among its sessions
+trace_inside : (t : ATrace) → IsTrace t → AreInside (length (replicate {A = List Operation} t.clients [])) t.records
+trace_inside t h = subst (λ (n : ℕ). AreInside n t.records) (sym (length-replicate t.clients [])) (named_inside t.format t.clients t.records h.named)
+
 -- a session has as many operations as the client has records
 pub session_turn : (t : ATrace) (c : ℕ) → IsTrace t → length (get_or (sessions_of t) c []) ≡ turn c t.records
-session_turn t c h =
-    omega (arith, after_len t.format t.clients (replicate t.clients []) t.records c (length-replicate t.clients []) h.named, ap length (none t.clients c))
+session_turn t c h = omega (arith, after_len (replicate t.clients []) t.records c (trace_inside t h), ap length (none t.clients c))
 
 pub sessions_count : (t : ATrace) → IsTrace t → count_of (sessions_of t) ≡ length t.records
-sessions_count t h = omega (arith, after_count t.format t.clients (replicate t.clients []) t.records (length-replicate t.clients []) h.named, count-none t.clients)
+sessions_count t h = omega (arith, after_count (replicate t.clients []) t.records (trace_inside t h), count-none t.clients)
 
 -- ---- the stored records
 
@@ -123,6 +138,32 @@ records_stay h c op earlier (d ∷ cs) inside bound =
     let made : Operation → List ARecord → List ARecord = λ o rs. record { client = d; op = o } ∷ rs in
     ap (λ (o : Operation). made o (records_from (with_op h c op) (earlier ++ d ∷ []) cs)) first ∙ ap (made (op_in h d (times d earlier))) later
 
+ops_stay : (h : Sessions) (rs : List ARecord) (d i : ℕ) → AreInside (length h) rs → i < length (get_or h d []) → op_in (sessions_after h rs) d i ≡ op_in h d i
+ops_stay h [] d i inside there = refl
+ops_stay h (r ∷ rs) d i inside there =
+    let later = subst (λ (n : ℕ). AreInside n rs) (sym (length-set h r.client _)) inside.1 in
+    ops_stay (with_op h r.client r.op) rs d i later (omega (arith, there, session_len h r.client d r.op inside.0)) ∙ op_stays h r.client d i r.op inside.0 there
+
+op_last : (h : Sessions) (c n : ℕ) (op : Operation) → c < length h → length (get_or h c []) ≡ n → op_in (with_op h c op) c n ≡ op
+op_last h c n op inside len =
+    let s = get_or h c [] in
+    ap (λ (l : List Operation). get_or l n (missed [])) (get_or-set_same h c (s ++ op ∷ []) [] inside) ∙ ap (λ (m : ℕ). get_or (s ++ op ∷ []) m (missed [])) (sym len) ∙ read_last s op
+
+-- the records are those of their sessions and their clients
+records_again : (h : Sessions) (earlier : List ℕ) (rs : List ARecord) → ((d : ℕ) → length (get_or h d []) ≡ times d earlier) → AreInside (length h) rs
+    → records_from (sessions_after h rs) earlier (map (λ r. r.client) rs) ≡ rs
+records_again h earlier [] counts inside = refl
+records_again h earlier (r ∷ rs) counts inside =
+    let c = r.client in
+    let g = with_op h c r.op in
+    let now = earlier ++ c ∷ [] in
+    let later : AreInside (length g) rs = subst (λ (n : ℕ). AreInside n rs) (sym (length-set h c _)) inside.1 in
+    let grown_counts : (d : ℕ) → length (get_or g d []) ≡ times d now = λ d. omega (arith, session_len h c d r.op inside.0, counts d, times-append d earlier (c ∷ []), times-cons d c []) in
+    let there : times c earlier < length (get_or g c []) = omega (arith, grown_counts c, times-append c earlier (c ∷ []), times-same c []) in
+    let first : op_in (sessions_after g rs) c (times c earlier) ≡ r.op = ops_stay g rs c (times c earlier) later there ∙ op_last h c (times c earlier) r.op inside.0 (counts c) in
+    ap (λ (o : Operation). let q : ARecord = record { client = c; op = o } in q ∷ records_from (sessions_after g rs) now (map (λ q. q.client) rs)) first
+    ∙ ap (λ (l : List ARecord). r ∷ l) (records_again g now rs grown_counts later)
+
 -- ---- the stored trace
 
 pub kept_len : (format : Format) (h : Sessions) (cs : List ℕ) (c : ℕ) → IsKept format h cs → length (get_or h c []) ≡ times c cs
@@ -134,9 +175,7 @@ pub trace_grown : (format : Format) (h : Sessions) (cs : List ℕ) (c : ℕ) (op
 trace_grown format h cs c op k inside =
     let g = with_op h c op in
     let s = get_or h c [] in
-    let last : op_in g c (times c cs) ≡ op =
-    ap (λ (l : List Operation). get_or l (times c cs) (missed [])) (get_or-set_same h c (s ++ op ∷ []) [] inside)
-    ∙ ap (λ (n : ℕ). get_or (s ++ op ∷ []) n (missed [])) (sym (kept_len format h cs c k)) ∙ read_last s op in
+    let last = op_last h c (times c cs) op inside (kept_len format h cs c k) in
     let stay = records_stay h c op [] cs inside (λ d. omega (arith, kept_len format h cs d k)) in
     let made : List ARecord → Operation → List ARecord = λ rs o. rs ++ record { client = c; op = o } ∷ [] in
     let all : records_from g [] (cs ++ c ∷ []) ≡ made (records_from h [] cs) op =
@@ -203,3 +242,21 @@ trace_in_2 t h = record { clients = h.clients; named = named_in_2 t.format t.cli
 -- the stored form of a trace is that of the same trace in format 2
 pub kept_in_2 : (format : Format) (h : Sessions) (cs : List ℕ) → IsKept format h cs → IsKept Two h cs
 kept_in_2 format h cs kept = record { is_trace = trace_in_2 (trace_of format h cs) kept.is_trace; sessions = kept.sessions }
+
+-- ---- the trace of records
+
+-- the records are the trace of their sessions and their clients
+pub trace_again : (format : Format) (n : ℕ) (rs : List ARecord) → AreInside n rs → trace_of format (sessions_after (replicate n []) rs) (map (λ r. r.client) rs) ≡ with_records format n rs
+trace_again format n rs inside =
+    let empty = replicate {A = List Operation} n [] in
+    let width : length empty ≡ n = length-replicate n [] in
+    let again = records_again empty [] rs (λ d. ap length (none n d)) (subst (λ (m : ℕ). AreInside m rs) (sym width) inside) in
+    ap (λ (m : ℕ). with_records format m (records_from (sessions_after empty rs) [] (map (λ r. r.client) rs))) (after_width empty rs ∙ width) ∙ ap (with_records format n) again
+
+-- their clients are an order of the operations of their sessions
+pub order_again : (n : ℕ) (rs : List ARecord) → AreInside n rs → IsOrder (sessions_after (replicate n []) rs) (map (λ r. r.client) rs)
+order_again n rs inside = λ c.
+    let empty = replicate {A = List Operation} n [] in
+    let there = subst (λ (m : ℕ). AreInside m rs) (sym (length-replicate n [])) inside in
+    let again = records_again empty [] rs (λ d. ap length (none n d)) there in
+    omega (arith, turn-records_from (sessions_after empty rs) c [] (map (λ r. r.client) rs), ap (turn c) again, after_len empty rs c there, ap length (none n c))

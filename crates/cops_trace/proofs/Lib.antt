@@ -7,6 +7,7 @@ pub mod Founds
 pub mod Readings
 pub mod Feeding
 pub mod Underway
+pub mod Arriving
 pub mod Aheads
 pub mod Begun
 pub mod ConvertFaults

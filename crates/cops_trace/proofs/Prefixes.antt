@@ -11,9 +11,8 @@ use Rattle.cops_wire.specs.Message.{encoded}
 use Rattle.cops_wire.specs.Records.{record_message}
 use Rattle.cops_trace.specs.Counts.{ACounts, AreCountsOf, HasTurn, counted, next_of}
 use Rattle.cops_trace.specs.Text.{ARecord, ATrace, IsOp, IsTrace, beginning, end_text, record_text, records_text, text, turn}
-use Rattle.cops_trace.specs.Kept.{grown, op_in, records_from, trace_of, IsKept}
+use Rattle.cops_trace.specs.Kept.{grown, op_in, records_from, trace_of, IsKept, IsOrder}
 use Rattle.cops_trace.specs.Writing.{CountPrefix, HasSent, head_frame, prefix}
-use Rattle.cops_trace.proofs.Begun.{appends_none}
 use Rattle.cops_trace.proofs.Lists.{take_past, times, times-append, times-same}
 use Rattle.cops_trace.proofs.Allocation.{beginning-grown, with_records}
 use Rattle.cops_trace.proofs.Keeping.{kept_len, length-records_from, records_push, turn-records_from}
@@ -37,10 +36,10 @@ parted (c ∷ cs) zero lt = refl
 parted (c ∷ cs) (suc i) lt = ap (λ l. c ∷ l) (parted cs i (omega arith))
 
 -- its client has an operation there
-pub turn_inside : (format : Format) (h : Sessions) (cs : List ℕ) (i : ℕ) → IsKept format h cs → i < length cs → times (get_or cs i 0) (take i cs) < length (get_or h (get_or cs i 0) [])
-turn_inside format h cs i k lt =
+pub turn_inside : (h : Sessions) (cs : List ℕ) (i : ℕ) → IsOrder h cs → i < length cs → times (get_or cs i 0) (take i cs) < length (get_or h (get_or cs i 0) [])
+turn_inside h cs i order lt =
     let c = get_or cs i 0 in
-    omega (arith, kept_len format h cs c k, ap (times c) (parted cs i lt), times-append c (take i cs) (c ∷ drop (suc i) cs), times-same c (drop (suc i) cs))
+    omega (arith, order c, ap (times c) (parted cs i lt), times-append c (take i cs) (c ∷ drop (suc i) cs), times-same c (drop (suc i) cs))
 
 pub op_there : (h : Sessions) (c n : ℕ) → n < length (get_or h c []) → slice_get (get_or h c []) n ≡ Some (op_in h c n)
 op_there h c n lt = got (get_or h c []) n lt
@@ -50,9 +49,9 @@ op_there h c n lt = got (get_or h c []) n lt
     got (x ∷ s) zero lt = refl
     got (x ∷ s) (suc n) lt = got s n (omega arith)
 
-pub op_stands : (format : Format) (h : Sessions) (cs : List ℕ) (i : ℕ) → IsKept format h cs → i < length cs → let c = get_or cs i 0 in let n = times c (take i cs) in
+op_stands : (h : Sessions) (cs : List ℕ) (i : ℕ) → IsOrder h cs → i < length cs → let c = get_or cs i 0 in let n = times c (take i cs) in
     op_at h (record { client = c; index = n }) ≡ Some (op_in h c n)
-op_stands format h cs i k lt = op_there h (get_or cs i 0) (times (get_or cs i 0) (take i cs)) (turn_inside format h cs i k lt)
+op_stands h cs i order lt = op_there h (get_or cs i 0) (times (get_or cs i 0) (take i cs)) (turn_inside h cs i order lt)
 
 -- what is read inside a list is there, whatever stands for its lack
 pub read_any : (xs : List ℕ) (i d e : ℕ) → i < length xs → get_or xs i d ≡ get_or xs i e
@@ -94,6 +93,7 @@ next_is format h cs c k p lt =
     let i = c.total in
     let client = get_or cs i 0 in
     let n = times client (take i cs) in
+    let order : IsOrder h cs = λ d. sym (kept_len format h cs d k) in
     let t = trace_of format h cs in
     let r : ARecord = record { client = client; op = op_in h client n } in
     let named = client_inside format h cs i k lt in
@@ -104,10 +104,10 @@ next_is format h cs c k p lt =
     record {
       turn = (
         inside,
-        omega (arith, p.counts.next client, before, turn_inside format h cs i k lt, kept_len format h cs client k, k.is_trace.each client, turn-records_from h client [] cs),
+        omega (arith, p.counts.next client, before, turn_inside h cs i order lt, kept_len format h cs client k, k.is_trace.each client, turn-records_from h client [] cs),
         omega (arith, lt, k.is_trace.all, length-records_from h [] cs),
       );
-      is_there = op_stands format h cs i k lt;
+      is_there = op_stands h cs i order lt;
       counts = record {
         inside = omega (arith, lt, length-records_from h [] cs);
         counts = subst (λ (u : ATrace). AreCountsOf u (counted c client)) (sym grows) (counts_grown (prefix i t) c r p.counts inside);
@@ -182,10 +182,6 @@ unwrapped (Err e) P is on = absurd cc
 pub ok_then : {T E : Type 0} (r : Result T E) (x y : List ℕ) → IsOk r → (if is_ok r then x else y) ≡ x
 ok_then (Ok a) x y is = refl
 ok_then (Err e) x y is = absurd cc
-
--- nothing went out
-pub sent_none : (old : Option (List ℕ)) (bytes left : List ℕ) → bytes ≡ left → HasSent old old bytes left 0
-sent_none old bytes left is = record { done = []; bytes_are = is; in_all = refl; appends = appends_none old }
 
 -- more is left
 pub sent_more : (old new : Option (List ℕ)) (bytes left more_bytes more_left : List ℕ) (written : ℕ) → HasSent old new bytes left written

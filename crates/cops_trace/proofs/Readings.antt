@@ -30,11 +30,11 @@ use Rattle.cops_wire.specs.Records.{record_message}
 use Rattle.cops_trace.specs.Text.{ARecord, ATrace, IsTrace, IsOp, turn, record_text, records_text, beginning, text, end_text}
 use Rattle.cops_trace.specs.Next.{Stands, format_next}
 use Rattle.cops_trace.specs.Writing.{head_frame}
-use Rattle.cops_trace.specs.Answer.{progress_of, progress_at, front, Begins, HasWrongFrame, IsCut, HasMore, HasFault, Says, Agrees}
+use Rattle.cops_trace.specs.Answer.{progress_of, progress_at, text_before, Begins, Says, Agrees}
 use Rattle.cops_trace.specs.Answer as answer
 use Rattle.cops_trace.specs.Parsing.{with_item, is_end}
 use Rattle.cops_trace.proofs.Lists.{all_back, turn-same}
-use Rattle.cops_trace.proofs.Allocation.{with_records, IsTrace-front}
+use Rattle.cops_trace.proofs.Allocation.{with_records, IsTrace-prefix}
 use Rattle.cops_trace.proofs.Items.{item_message, Allows, IsLegalItem, one_item, stands_again, one_stands, op_legal, encoded_in, encoded_len}
 
 -- ---- items in a row
@@ -119,7 +119,7 @@ entries_stand : (f : Format) (c : ℕ) (earlier rs : List ARecord) → IsTrace (
 entries_stand f c earlier [] h = tt
 entries_stand f c earlier (r ∷ rs) h =
     let grouped : IsTrace (with_records f c ((earlier ++ r ∷ []) ++ rs)) = subst (λ (l : List ARecord). IsTrace (with_records f c l)) (sym (append_assoc earlier (r ∷ []) rs)) h in
-    let here = IsTrace-front f c (earlier ++ r ∷ []) rs grouped in
+    let here = IsTrace-prefix f c (earlier ++ r ∷ []) rs grouped in
     let named = (all_back (λ (s : ARecord). (s.client < c) × IsOp f s.op) earlier (r ∷ []) here.named).0 in
     let same = turn-same earlier r in
     let each = here.each r.client in
@@ -159,7 +159,7 @@ end_legal t h = (omega (arith, h.all), tt)
 -- the items of a prefix may come one after the other, make up its text, and lead to it
 record Unfolds (b : Option ATrace) : Type 0 where
   all : AllStand None (items_of b)
-  text_is : front b ≡ items_text None (items_of b)
+  text_is : text_before b ≡ items_text None (items_of b)
   after_is : after_items None (items_of b) ≡ b
 
 unfolds : (b : Option ATrace) → IfSome b IsTrace → Unfolds b
@@ -187,7 +187,7 @@ items_count : (b : Option ATrace) → IfSome b IsTrace → length (items_of b) �
 items_count None h = omega arith
 items_count (Some t) h = omega (arith, length-entries t.records, h.all)
 
-pub prefix_len : (b : Option ATrace) → IfSome b IsTrace → length (front b) ≤ 2097216131076
+pub prefix_len : (b : Option ATrace) → IfSome b IsTrace → length (text_before b) ≤ 2097216131076
 prefix_len b h =
     let u = unfolds b h in
     omega (arith, ap length u.text_is, items_len None (items_of b) u.all, items_count b h)
@@ -215,7 +215,7 @@ prefixes_one bytes b c x y h k s t =
 -- the result for what comes after a prefix
 abbrev outcome : Option ATrace → List ℕ → Found → Result ATrace TraceFault
 outcome b rest (Fails e) = Err e
-outcome b rest Waits = Err (Cut (length (front b)))
+outcome b rest Waits = Err (Cut (length (text_before b)))
 outcome None rest (Gives i used) = Err Memory
 outcome (Some t) rest (Gives i used) = cond (eqb (length rest) used) (Ok t) (Err (BytesAfterEnd (length (beginning t) + used)))
 
@@ -233,7 +233,7 @@ last_where : (b : Option ATrace) (rest : List ℕ) (found : Found) → IsBytes r
 last_where b rest found fits s none i used not_end t = none i used not_end (one_stands (progress_at b) rest found (Gives i used) fits s t)
 
 rest_fits : (bytes : List ℕ) (b : Option ATrace) (rest : List ℕ) → IsBytes bytes → Begins bytes b rest → IsBytes rest
-rest_fits bytes b rest fits h = IsBytes-right (front b) rest (subst IsBytes h.parts fits)
+rest_fits bytes b rest fits h = IsBytes-right (text_before b) rest (subst IsBytes h.parts fits)
 
 not_other : (i : Item) (used n : ℕ) → is_end i ≡ false → Gives End n ≢ Gives i used
 not_other (Head format clients) used n h e = cc

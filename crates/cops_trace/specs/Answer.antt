@@ -21,9 +21,9 @@ progress_of t = record {
 }
 
 -- a prefix of a text: nothing, or the head and the records of a trace
-abbrev pub front : Option ATrace → List ℕ
-front None = []
-front (Some t) = beginning t
+abbrev pub text_before : Option ATrace → List ℕ
+text_before None = []
+text_before (Some t) = beginning t
 
 -- the progress of a text after that prefix
 abbrev pub progress_at : Option ATrace → Option Progress
@@ -32,7 +32,7 @@ progress_at = option_map progress_of
 -- the bytes are such a prefix and then this rest
 pub record Begins (bytes : List ℕ) (begun : Option ATrace) (rest : List ℕ) : Type 0 where
   pub is_trace : IfSome begun IsTrace
-  pub parts : bytes ≡ front begun ++ rest
+  pub parts : bytes ≡ text_before begun ++ rest
 
 -- after a prefix of a text comes a frame with this fault
 pub record HasWrongFrame (bytes : List ℕ) (e : TraceFault) : Type 0 where
@@ -47,7 +47,7 @@ pub record IsCut (bytes : List ℕ) (e : TraceFault) : Type 0 where
   pub rest : List ℕ
   pub begins : Begins bytes begun rest
   pub stands : Stands (progress_at begun) rest Waits
-  pub fault_is : e ≡ Cut (length (front begun))
+  pub fault_is : e ≡ Cut (length (text_before begun))
 
 -- the bytes are cut at this offset, and before it come the head and the records of this trace, or nothing
 pub record IsCutAfter (bytes : List ℕ) (t : ATrace) (offset : ℕ) : Type 0 where
@@ -55,7 +55,7 @@ pub record IsCutAfter (bytes : List ℕ) (t : ATrace) (offset : ℕ) : Type 0 wh
   pub rest : List ℕ
   pub begins : Begins bytes begun rest
   pub stands : Stands (progress_at begun) rest Waits
-  pub place : offset ≡ length (front begun)
+  pub place : offset ≡ length (text_before begun)
   pub trace_is : t ≡ unwrap_or begun (record { format = One; clients = 0; records = [] })
 
 -- there are bytes after a whole text

@@ -19,6 +19,10 @@ records_from h earlier (c ∷ cs) = record { client = c; op = op_in h c (count_b
 abbrev pub trace_of : Format → Sessions → List ℕ → ATrace
 trace_of format h arrivals = record { format = format; clients = length h; records = records_from h [] arrivals }
 
+-- the arrivals are an order of the sessions' operations: each client comes as often as its session has operations
+abbrev pub IsOrder : Sessions → List ℕ → Type 0
+IsOrder h arrivals = (client : ℕ) → count_by (λ d. d == client) arrivals ≡ length (slice_index_or h client [])
+
 -- the stored data is a trace, and the sessions are those that it records
 pub record IsKept (format : Format) (h : Sessions) (arrivals : List ℕ) : Type 0 where
   pub is_trace : IsTrace (trace_of format h arrivals)

@@ -8,7 +8,7 @@ use Rattle.cops_trace.specs.declared.found.Item.{Item}
 use Rattle.cops_trace.specs.declared.found.Item.TheVariants.{Head, Op as Entry, End}
 use Rattle.cops_trace.specs.declared.found.Found.TheVariants.{Gives, Waits, Fails}
 use Rattle.cops_trace.specs.Text.{ATrace, IsTrace, turn, text}
-use Rattle.cops_trace.specs.Answer.{Begins, front, HasFault}
+use Rattle.cops_trace.specs.Answer.{Begins, text_before, HasFault}
 use Rattle.cops_trace.specs.Kept.{MayHave, grown}
 use Rattle.cops_trace.specs.Counts.{ACounts, AreCountsOf}
 use Rattle.cops_trace.specs.Next.{Progress, Stands}
@@ -54,7 +54,7 @@ IsBegunAs _ _ = ⊥
 
 -- These bytes are what was read in this state, followed by its rest.
 abbrev pub FedTo : List ℕ → ParseState → Bool → Type 0
-FedTo fed s false = Begins fed s.begun s.rest × (s.at ≡ length (front s.begun))
+FedTo fed s false = Begins fed s.begun s.rest × (s.at ≡ length (text_before s.begun))
 FedTo fed s true = (t : ATrace) × (s.begun ≡ Some t) × IsTrace t × (fed ≡ text t ++ s.rest) × (s.at ≡ length (text t))
 
 pub record Fed (fed : List ℕ) (s : ParseState) : Type 0 where

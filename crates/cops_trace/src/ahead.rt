@@ -1,7 +1,7 @@
 //! Reading several records ahead, before the first of them is taken, so that a sink can prefetch what they need.
 ghost use Rattle.std.specs.Prelude.{◌≡◌, ◌≤◌, ◌+◌, false, length, drop, IfOk, OnErr, Some};
 ghost use Rattle.cops_trace.specs.Ahead.{AreSeen, GoesOn, reading_at};
-ghost use Rattle.cops_trace.specs.Parsing.{IsTakenAs, IsUnderway};
+ghost use Rattle.cops_trace.specs.Parsing.{IsUnderway};
 ghost use Rattle.cops_trace.specs.Reading.{IsWithinReach};
 
 use crate::counts::Counts;

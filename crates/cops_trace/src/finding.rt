@@ -1,5 +1,5 @@
 //! Finding what comes next in a trace's text.
-ghost use Rattle.std.specs.Prelude.{◌≡◌, ◌≢◌, ◌<◌, ◌≤◌, ◌^◌, ◌+◌, ℕ, length, None, Some, IfOk, IfNone, IfSome, OnErr};
+ghost use Rattle.std.specs.Prelude.{◌≡◌, ◌≢◌, ◌<◌, ◌^◌, ◌+◌, ℕ, None, Some, IfOk, IfNone, IfSome, OnErr};
 ghost use Rattle.cops_types.specs.declared.op.Op.{Op as AnOp};
 ghost use Rattle.cops_trace.specs.Next.{Stands, format_next, unread, first_message, later_message, record_found, end_found};
 ghost use Rattle.cops_trace.specs.Counts.{progress_from};

@@ -1,5 +1,5 @@
 //! The printed line of a trace's fault.
-ghost use Rattle.std.specs.Prelude.{◌≡◌, ◌++◌, OnOk, OnErr, string_bytes, IfOk, IfSome, option_map};
+ghost use Rattle.std.specs.Prelude.{◌≡◌, ◌++◌, OnOk, OnErr, option_map};
 ghost use Rattle.cops_trace.specs.Lines.{wire_words, words, fault_line};
 
 use crate::fault::TraceFault;

@@ -1,7 +1,7 @@
 //! Writing a trace's text while the trace grows.
 use crate::fault::{FinishFault, WriteFault};
 use crate::record::Record;
-use crate::trace::{Trace, legal};
+use crate::trace::{Trace, is_op};
 use crate::writer::{TraceWriter, Unwritten};
 use crate::writing::text_of;
 use cops_types::{Counted, Format, write_text};
@@ -118,7 +118,7 @@ impl<W: Write> LiveTrace<W> {
             text,
             begun,
         } = self;
-        legal(writer.format(), &next.op.as_ref());
+        is_op(writer.format(), &next.op.as_ref());
         match writer.op(next.client, &next.op) {
             Ok(()) => LiveTrace::kept(writer, text, begun),
             Err(fault) => Err(writer.give_up(fault)),

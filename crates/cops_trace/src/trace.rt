@@ -1,10 +1,12 @@
-ghost use Rattle.std.specs.Prelude.{◌≡◌, ◌+◌, ◌≤◌, ◌++◌, vec_len, vec_capacity, IsOk, OnOk};
+ghost use Rattle.std.specs.Prelude.{◌≡◌, ◌↔◌, ◌+◌, ◌≤◌, ◌++◌, length, vec_len, vec_capacity, IsOk, IsTrue, OnOk};
 ghost use Rattle.cops_types.specs.declared.format.Format.TheVariants.{One};
-ghost use Rattle.cops_types.specs.Format.{IsInFormat};
+ghost use Rattle.cops_types.specs.Format.{AreInFormat, IsInFormat};
 ghost use Rattle.cops_types.specs.OpRefs.{seen};
 ghost use Rattle.cops_types.specs.OpViews.{viewed};
 ghost use Rattle.cops_wire.specs.Message.{encoded};
 ghost use Rattle.cops_wire.specs.Records.{record_message};
+ghost use Rattle.cops_trace.specs.Counts.{nothing};
+ghost use Rattle.cops_trace.specs.Kept.{IsKept, IsOrder};
 ghost use Rattle.cops_trace.specs.Text.{IsOp};
 ghost use Rattle.cops_trace.specs.declared.trace.TheConstants.{LONGEST_FRAME};
 
@@ -38,12 +40,13 @@ impl Model for Trace {
 }
 
 impl Trace {
-    ghost use Rattle.std.specs.Prelude.{◌≡◌, ◌⊎◌, ◌+◌, ◌≤◌, ◌<◌, ◌↔◌, ℕ, List, [], ◌++◌, length, vec_len, vec_capacity, IsOk, OnOk, OnErr, IfOk, IfErr, IsErrOf, ◌==◌};
+    ghost use Rattle.std.specs.Prelude.{◌≡◌, ◌⊎◌, ◌+◌, ◌≤◌, ◌<◌, ◌↔◌, ℕ, List, [], ◌++◌, length, vec_len, vec_capacity, IsOk, OnOk, OnErr, IfOk, IfErr, IfSome, IsErrOf, IsTrue, is_some, ◌==◌};
     ghost use Rattle.cops_types.specs.TypeFaults.{IsHistoryFault};
     ghost use Rattle.cops_trace.specs.Text.{IsTrace, beginning, sessions_of, turn};
     ghost use Rattle.cops_trace.specs.Writing.{CountPrefix, prefix};
     ghost use Rattle.cops_trace.specs.Converting.{in_format_2};
-    ghost use Rattle.cops_trace.specs.Kept.{grown, IsFull};
+    ghost use Rattle.cops_trace.specs.Kept.{grown, trace_of, IsFull, IsOrder};
+    ghost use Rattle.cops_types.specs.Format.{AreInFormat};
     ghost use Rattle.cops_types.specs.OpViews.{viewed};
     ghost use Rattle.cops_types.specs.Operations.{operation_of};
 
@@ -64,6 +67,26 @@ impl Trace {
             history,
             arrivals: Vec::new(alloc),
         })
+    }
+
+    /// The trace of a history whose operations arrived in this order: for each operation its client. None if the
+    /// arrivals are no order of the history's operations, or an operation is not in the format. Fails if memory runs
+    /// out.
+    pub fn of(format: Format, history: History, arrivals: Vec<u16>) -> Result<Option<Trace>, Memory>
+        ensures trace { IfOk result (λ made. IfSome made (λ trace. trace ≡ trace_of format history.sessions arrivals.items)) }
+        ensures some { IfOk result (λ made. IsTrue (is_some made)
+            ↔ (IsOrder history.sessions arrivals.items × AreInFormat format history.sessions)) }
+    {
+        let counts = Counts::new(format, *arrivals.allocator(), history.clients() as u16)?;
+        if is_trace(format, &history, &arrivals, counts) {
+            Ok(Some(Trace {
+                format,
+                history,
+                arrivals,
+            }))
+        } else {
+            Ok(None)
+        }
     }
 
     /// The trace of format 2 with the same clients and operations.
@@ -102,7 +125,7 @@ impl Trace {
     {
         self.history.reserve(client)?;
         self.arrivals.reserve(1)?;
-        legal(self.format, &op.as_ref());
+        is_op(self.format, &op.as_ref());
         self.history.push(client, op)?;
         self.arrivals.push_reserved(client);
         Ok(())
@@ -171,8 +194,8 @@ impl Trace {
         self.arrivals.is_empty()
     }
 
-    /// Appends the frames of records, of which the counts say where the next one is, until the text has `most` bytes or no
-    /// record is left. It takes no memory where there is room for `most` bytes and one frame more.
+    /// Appends the frames of records, of which the counts say where the next one is, until the text has `most` bytes or
+    /// no record is left. It takes no memory where there is room for `most` bytes and one frame more.
     pub(crate) fn append_records(
         &self,
         counts: &mut Counts,
@@ -233,18 +256,49 @@ pub(crate) fn append_record(
     encode_record(client, index, op, out)
 }
 
-/// Shows that an operation of a format has an encoding in it: its key, value and version are within their ranges.
-pub(crate) fn legal(_format: Format, op: &OpRef<'_>)
-    requires { IsInFormat _format (seen op.now) }
-    ensures { IsOp _format (seen op.now) }
+/// Whether the arrivals are an order of the history's operations, and the operations are in the format.
+fn is_trace(format: Format, history: &History, arrivals: &[u16], mut counts: Counts) -> bool
+    requires { counts ≡ nothing format (length history.now.sessions) }
+    ensures kept { IsTrue result → IsKept format history.now.sessions arrivals.now }
+    ensures order { IsTrue result ↔ (IsOrder history.now.sessions arrivals.now × AreInFormat format history.now.sessions) }
+{
+    if arrivals.len() != history.len() {
+        return false;
+    }
+    for n in 0..arrivals.len() {
+        let client = arrivals[n];
+        let index = counts.next(client);
+        match history.op(OpName { client, index }) {
+            Some(op) if is_op(format, &op) => counts.add(client),
+            _ => return false,
+        }
+    }
+    true
+}
+
+/// Whether an operation is of a format, and so has an encoding in it: its key and its version are within their ranges.
+pub(crate) fn is_op(format: Format, op: &OpRef<'_>) -> bool
+    ensures format { IsTrue result ↔ IsInFormat format (seen op.now) }
+    ensures op { IsInFormat format (seen op.now) → IsOp format (seen op.now) }
 {
     match op {
-        OpRef::Put { key, version, .. } | OpRef::Got { key, version, .. } => {
+        OpRef::Put {
+            key,
+            value,
+            version,
+        }
+        | OpRef::Got {
+            key,
+            value,
+            version,
+        } => {
             let _key = key.as_bytes();
             let _version = version.as_u64();
+            format.fits(*value)
         }
         OpRef::Missed { key } => {
             let _key = key.as_bytes();
+            true
         }
     }
 }

@@ -104,8 +104,8 @@ fn send<W: Write>(
     }
 }
 
-/// Writes a trace's text but for its end, in pieces, the last of which is left: how many bytes were written. It takes no
-/// memory.
+/// Writes a trace's text but for its end, in pieces, the last of which is left: how many bytes were written. It takes
+/// no memory.
 fn write_records<W: Write>(
     writer: &mut Counted<W>,
     trace: &Trace,
@@ -160,7 +160,7 @@ pub fn write_trace<W: Write>(
 ) -> Result<(), WriteFault>
     ensures ok { OnOk result (Appends (W.contents (inner writer.old)) (W.contents (inner writer.new)) (text trace.now)) }
     ensures memory { IsErrOf result WriteFault.Memory → Keeps (W.contents (inner writer.old)) (W.contents (inner writer.new)) }
-    ensures front { IfErr result (λ e. (n : ℕ) → e ≡ WriteFault.WriteFailed n
+    ensures cut { IfErr result (λ e. (n : ℕ) → e ≡ WriteFault.WriteFailed n
         → (n < length (text trace.now)) × Appends (W.contents (inner writer.old)) (W.contents (inner writer.new)) (take n (text trace.now))) }
     ensures failed { IfErr result (λ e. e ≢ WriteFault.Memory → Failed (failures writer.old) (failures writer.new)) }
     ensures heard { (OnOk result (failures writer.new ≡ failures writer.old)) × (IsErrOf result WriteFault.Memory → failures writer.new ≡ failures writer.old) }

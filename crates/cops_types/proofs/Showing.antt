@@ -92,20 +92,6 @@ no_items puts gets (suc n) = ap (λ (l : EntryLists). [] ∷ l) (no_items puts g
 pub shown-none : (puts : List KeptPut) (gets : List KeptGot) (slots : List (List OpSlot)) (n : ℕ) → slots ≡ replicate n [] → shown_by puts gets slots ≡ replicate n []
 shown-none puts gets slots n none = ap (shown_by puts gets) none ∙ no_items puts gets n
 
--- the invariant of empty lists
-pub none_kept : (slots : List (List OpSlot)) (n : ℕ) → slots ≡ replicate n [] → AreKept [] [] slots
-none_kept slots n none = record {
-  there = λ name s at. let gone : None ≡ Some s = nothing name s at in cc;
-  named = λ m p at. let gone : None ≡ Some p = at in cc;
-  back = λ name m at. let gone : None ≡ Some (PutSlot m) = nothing name (PutSlot m) at in cc;
-  each = λ m within. absurd (omega (arith, within));
-  once = λ a b m at also. let gone : None ≡ Some (GotSlot m) = nothing a (GotSlot m) at in cc;
-  rising = λ a b k m same before at also. let gone : None ≡ Some (GotSlot k) = nothing a (GotSlot k) at in cc;
-}
-  where
-    nothing : (name : OpName) (s : OpSlot) → item_at slots name ≡ Some s → None ≡ Some s
-    nothing name s at = ap (λ (l : List OpSlot). slice_get l name.index) (sym (none_of n name.client)) ∙ ap (λ (l : List (List OpSlot)). item_at l name) (sym none) ∙ at
-
 pub item_at-shown : (puts : List KeptPut) (gets : List KeptGot) (slots : List (List OpSlot)) (name : OpName) → item_at (shown_by puts gets slots) name ≡ option_map (shown puts gets) (item_at slots name)
 item_at-shown puts gets slots name = item_at-map (shown puts gets) slots name
 

@@ -1,9 +1,10 @@
 -- The number and the limits of each format, and which operations it has.
-use Rattle.std.specs.Prelude.{◌≤◌, ℕ, Bool, true, false, nat_le, List, length, ◌==◌, if◌then◌else◌, Option, Some, None}
+use Rattle.std.specs.Prelude.{◌≤◌, ℕ, Bool, true, false, nat_le, List, length, ◌≡◌, ◌==◌, if◌then◌else◌, Option, Some, None}
 use Rattle.cops_types.specs.declared.format.Format.{Format}
 use Rattle.cops_types.specs.declared.format.Format.TheVariants.{One, Two}
 use Rattle.cops_types.specs.declared.limits.TheConstants.{MAX_BODY, MAX_BODY_IN_ONE, MAX_DEPS, MAX_DEPS_IN_ONE, MAX_VALUE, MAX_VALUE_IN_ONE}
-use Rattle.cops_types.specs.Histories.{Operation, write, read, missed}
+use Rattle.cops_types.specs.declared.op.OpName.{OpName}
+use Rattle.cops_types.specs.Histories.{Sessions, Operation, write, read, missed, op_at}
 
 -- the number of a format
 abbrev pub number_of : Format → ℕ
@@ -46,3 +47,7 @@ abbrev pub IsInFormat : Format → Operation → Type 0
 IsInFormat format (write key content version) = Fits format content
 IsInFormat format (read key content version) = Fits format content
 IsInFormat format (missed key) = Unit {0}
+
+-- each operation of the history is in the format
+abbrev pub AreInFormat : Format → Sessions → Type 0
+AreInFormat format h = (name : OpName) (op : Operation) → op_at h name ≡ Some op → IsInFormat format op

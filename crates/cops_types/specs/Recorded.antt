@@ -38,9 +38,9 @@ pub record AreNumbered (numbers : List (List (Option ℕ))) (count : ℕ) : Type
   pub rising : (a b : OpName) (m n : ℕ) → a.client ≡ b.client → a.index < b.index → number_at numbers a ≡ Some m → number_at numbers b ≡ Some n → m < n
 
 -- each operation keeps its number among the pending reads, if it has one
-abbrev pub KeepsOpen : Recorded → Recorded → Type 0
-KeepsOpen old new = (name : OpName) → IsNamed old.sessions name → number_at new.get_numbers name ≡ number_at old.get_numbers name
+abbrev pub KeepsPending : Recorded → Recorded → Type 0
+KeepsPending old new = (name : OpName) → IsNamed old.sessions name → number_at new.get_numbers name ≡ number_at old.get_numbers name
 
 -- the get of that name is the pending read of that number
-abbrev pub IsOpenAt : Recorded → ℕ → OpName → Type 0
-IsOpenAt r number got = (op : Operation) × (slice_get r.gets number ≡ Some op) × (op_at r.sessions got ≡ Some op)
+abbrev pub IsPendingAt : Recorded → ℕ → OpName → Type 0
+IsPendingAt r number got = (op : Operation) × (slice_get r.gets number ≡ Some op) × (op_at r.sessions got ≡ Some op)

@@ -45,7 +45,7 @@ impl<T: Copy> Candidates<T> {
     }
 
     /// Stores a candidate, if the table has places.
-    pub(crate) fn note(&mut self, number: usize, candidate: T) {
+    pub(crate) fn store(&mut self, number: usize, candidate: T) {
         let place = self.place(number);
         if let Some(kept) = self.places.get_mut(place) {
             *kept = candidate;

@@ -70,7 +70,7 @@ impl History {
     ghost use Rattle.cops_types.specs.OpViews.{viewed};
     ghost use Rattle.cops_types.specs.Counts.{count_of, put_count};
     ghost use Rattle.cops_types.specs.PutLists.{AreAllPuts};
-    ghost use Rattle.cops_types.specs.Recorded.{AreNumbered, IsFull, IsOpenAt, IsWithinLimits, HasRoom, KeepsOpen};
+    ghost use Rattle.cops_types.specs.Recorded.{AreNumbered, IsFull, IsPendingAt, IsWithinLimits, HasRoom, KeepsPending};
     ghost use Rattle.cops_types.specs.TypeFaults.{IsHistoryFault};
     ghost use Rattle.cops_types.specs.Faults.{IsNotAbove};
     ghost use Rattle.cops_types.specs.Lists.{number_at};
@@ -101,7 +101,7 @@ impl History {
     #[inline(always)]
     pub fn reserve(&mut self, client: u16) -> Result<(), TypeFault>
         ensures same { self.new.sessions ≡ self.old.sessions }
-        ensures open { KeepsOpen self.old self.new }
+        ensures pending { KeepsPending self.old self.new }
         ensures room { OnOk result (HasRoom self.new client) }
         ensures admitted { OnOk result (client < length self.old.sessions
             × length (slice_index_or self.old.sessions client []) < MAX_CLIENT_OPS × count_of self.old.sessions < MAX_OPS) }
@@ -126,7 +126,7 @@ impl History {
         ensures unknown { IsErrOf result TypeFault.UnknownClient ↔ (length self.old.sessions ≤ client) }
         ensures too_many { IsErrOf result TypeFault.TooManyOps ↔ (client < length self.old.sessions × IsFull self.old.sessions client) }
         ensures reserved { HasRoom self.old client → ¬ IsErrOf result TypeFault.Memory }
-        ensures open { KeepsOpen self.old self.new }
+        ensures pending { KeepsPending self.old self.new }
         ensures only { IfErr result IsHistoryFault }
     {
         self.admit(client)?;
@@ -181,7 +181,7 @@ impl History {
         ensures room { OnOk result (HasRoom self.new client) }
         ensures others { (c : ℕ) → HasRoom self.old c → HasRoom self.new c }
         ensures held { HasRoom self.old client → IsOk result }
-        ensures open { KeepsOpen self.old self.new }
+        ensures pending { KeepsPending self.old self.new }
     {
         if self.reserved[client as usize] {
             return Ok(());
@@ -195,7 +195,7 @@ impl History {
         requires inside { client < length self.old.sessions }
         requires none { slice_index_or self.old.room client false ≡ false }
         ensures same { self.new.sessions ≡ self.old.sessions }
-        ensures open { KeepsOpen self.old self.new }
+        ensures pending { KeepsPending self.old self.new }
         ensures room { OnOk result (HasRoom self.new client) }
         ensures others { (c : ℕ) → HasRoom self.old c → HasRoom self.new c }
     {
@@ -216,7 +216,7 @@ impl History {
         requires all { count_of self.old.sessions < MAX_OPS }
         requires room { HasRoom self.old client }
         ensures ok { self.new.sessions ≡ with_op self.old.sessions client (operation_of op) }
-        ensures open { KeepsOpen self.old self.new }
+        ensures pending { KeepsPending self.old self.new }
         ensures others { (c : ℕ) → c ≢ client → HasRoom self.old c → HasRoom self.new c }
     {
         let entry = entry_of(&mut self.keys, &mut self.prefetcher, &self.entries, op);
@@ -237,7 +237,7 @@ impl History {
         requires room { HasRoom self.old client }
         ensures ok { OnOk result (self.new.sessions ≡ with_op self.old.sessions client (viewed op.now)) }
         ensures err { OnErr result (self.new.sessions ≡ self.old.sessions) }
-        ensures open { KeepsOpen self.old self.new }
+        ensures pending { KeepsPending self.old self.new }
         ensures others { (c : ℕ) → c ≢ client → HasRoom self.old c → HasRoom self.new c }
     {
         let alloc = *self.reserved.allocator();
@@ -298,19 +298,19 @@ impl History {
     /// The number of pending reads: gets whose puts the history had not found when the gets were added. They are
     /// numbered from 0 in that order, and each keeps its number. Each other get that returned something has its source
     /// in the history.
-    pub fn open_gets(&self) -> usize
+    pub fn pending_reads(&self) -> usize
         ensures count { result ≡ length self.now.gets }
         ensures few { result ≤ count_of self.now.sessions }
         ensures limits { IsWithinLimits self.now.sessions }
         ensures others { (got : OpName) (version : ℕ) → GetsVersion self.now.sessions got version
-            → ((number : ℕ) × IsOpenAt self.now number got) ⊎ ((put : OpName) × SourceStep self.now.sessions put got) }
+            → ((number : ℕ) × IsPendingAt self.now number got) ⊎ ((put : OpName) × SourceStep self.now.sessions put got) }
         ensures numbered { AreNumbered self.now.get_numbers result }
     {
         self.entries.gets()
     }
 
     /// The pending read of that number, if there is one.
-    pub fn open_get(&self, number: u32) -> Option<OpRef<'_>>
+    pub fn pending_read(&self, number: u32) -> Option<OpRef<'_>>
         ensures { option_map seen result ≡ slice_get self.now.gets number }
     {
         let got = self.entries.kept_get(number)?;
@@ -324,8 +324,8 @@ impl History {
     /// The number of the get of that name among the pending reads, if it is one. If it is none and the get returned
     /// something, its source is in the history.
     #[inline(always)]
-    pub fn open_number(&self, got: OpName) -> Option<u32>
-        ensures open { IfSome result (λ number. IsOpenAt self.now number got) }
+    pub fn pending_number(&self, got: OpName) -> Option<u32>
+        ensures pending { IfSome result (λ number. IsPendingAt self.now number got) }
         ensures none { IfNone result ((version : ℕ) → GetsVersion self.now.sessions got version → (put : OpName) × SourceStep self.now.sessions put got) }
         ensures numbered { result ≡ number_at self.now.get_numbers got }
     {
@@ -503,20 +503,12 @@ fn entry_of(keys: &mut KeySet, prefetcher: &mut Prefetcher, entries: &Entries, o
             value,
             version,
         } => {
-            prefetcher.note_put(version, entries.puts());
-            StoredOp::Put {
-                key: number_of(keys, prefetcher, key, known),
-                value: Some(value),
-                version,
-            }
+            let key = number_of(keys, prefetcher, key, known);
+            put_entry(prefetcher, entries, key, Some(value), version)
         }
         Op::Del { key, version } => {
-            prefetcher.note_put(version, entries.puts());
-            StoredOp::Put {
-                key: number_of(keys, prefetcher, key, known),
-                value: None,
-                version,
-            }
+            let key = number_of(keys, prefetcher, key, known);
+            put_entry(prefetcher, entries, key, None, version)
         }
         Op::Got {
             key,
@@ -572,12 +564,7 @@ fn op_of_borrowed(
         } => {
             let value = copy_of_borrowed(alloc, value.as_ref())?;
             let key = number_of_seen(alloc, keys, prefetcher, key, known)?;
-            prefetcher.note_put(*version, entries.puts());
-            Ok(StoredOp::Put {
-                key,
-                value,
-                version: *version,
-            })
+            Ok(put_entry(prefetcher, entries, key, value, *version))
         }
         OpView::Got {
             key,
@@ -605,6 +592,25 @@ fn op_of_borrowed(
             let key = number_of_seen(alloc, keys, prefetcher, key, known)?;
             Ok(StoredOp::Missed { key })
         }
+    }
+}
+
+/// The entry of a put of the key of that number. The put becomes the candidate for the gets of its version.
+#[inline(always)]
+fn put_entry(
+    prefetcher: &mut Prefetcher,
+    entries: &Entries,
+    key: u32,
+    value: Option<Value>,
+    version: Version,
+) -> StoredOp
+    ensures { result ≡ Put key value version }
+{
+    prefetcher.store_put(version, entries.puts());
+    StoredOp::Put {
+        key,
+        value,
+        version,
     }
 }
 
@@ -683,7 +689,7 @@ fn copy_of_borrowed(alloc: Global, value: Option<&ValueView<'_>>) -> Result<Opti
     }
 }
 
-/// The number of a key, where it is guessed right. The key is looked at where it lies.
+/// The number of a key, if the candidate or the table of candidates is right.
 #[inline(always)]
 fn known_number(
     keys: &KeySet,
@@ -715,7 +721,7 @@ fn number_of(keys: &mut KeySet, prefetcher: &mut Prefetcher, key: Key, known: Op
         return number;
     }
     let number = keys.number(key);
-    prefetcher.note_key(&keys.key(number).as_view(), number);
+    prefetcher.store_key(&keys.key(number).as_view(), number);
     number
 }
 

@@ -45,44 +45,45 @@ impl Clone for Op {
     ghost is_clone = { λ s t. t ≡ s };
 
     fn clone(&self) -> Result<Op, AllocError> {
-        match self {
-            Op::Put {
-                key,
-                value,
-                version,
-            } => Ok(Op::Put {
-                key: key.clone()?,
-                value: value.clone()?,
-                version: *version,
-            }),
-            Op::Got {
-                key,
-                value,
-                version,
-            } => Ok(Op::Got {
-                key: key.clone()?,
-                value: value.clone()?,
-                version: *version,
-            }),
-            Op::Del { key, version } => Ok(Op::Del {
-                key: key.clone()?,
-                version: *version,
-            }),
-            Op::Gone { key, version } => Ok(Op::Gone {
-                key: key.clone()?,
-                version: *version,
-            }),
-            Op::Missed { key } => Ok(Op::Missed { key: key.clone()? }),
-        }
+        self.as_ref().to_op()
     }
 }
 
 impl Op {
     ghost use Rattle.std.specs.Prelude.{◌≡◌, ◌↔◌, IsTrue};
     ghost use Rattle.cops_types.specs.Format.{IsInFormat};
+    ghost use Rattle.cops_types.specs.Histories.{read, write};
     ghost use Rattle.cops_types.specs.OpRefs.{seen};
     ghost use Rattle.cops_types.specs.OpViews.{viewed};
     ghost use Rattle.cops_types.specs.Operations.{key_of, operation_of};
+
+    /// A put of this content, with its version: without a value it is a deletion.
+    pub fn write(key: Key, content: Option<Value>, version: Version) -> Op
+        ensures { operation_of result ≡ write key content version }
+    {
+        match content {
+            Some(value) => Op::Put {
+                key,
+                value,
+                version,
+            },
+            None => Op::Del { key, version },
+        }
+    }
+
+    /// A get that returned this content and version: without a value it found a deletion.
+    pub fn read(key: Key, content: Option<Value>, version: Version) -> Op
+        ensures { operation_of result ≡ read key content version }
+    {
+        match content {
+            Some(value) => Op::Got {
+                key,
+                value,
+                version,
+            },
+            None => Op::Gone { key, version },
+        }
+    }
 
     /// Whether the format has such an operation. Deletions, gets that found one, and values of more than 4,096 bytes
     /// are only in format 2.

@@ -5,7 +5,7 @@ ghost use Rattle.cops_types.specs.Operations.{operation_of};
 
 use crate::key::Key;
 use crate::op::Op;
-use crate::value::Value;
+use crate::value::{Value, content_copy};
 use crate::version::Version;
 use std::alloc::AllocError;
 
@@ -38,38 +38,14 @@ impl OpRef<'_> {
         match self {
             OpRef::Put {
                 key,
-                value: Some(value),
+                value,
                 version,
-            } => Ok(Op::Put {
-                key: Key::clone(key)?,
-                value: Value::clone(value)?,
-                version: **version,
-            }),
-            OpRef::Put {
-                key,
-                value: None,
-                version,
-            } => Ok(Op::Del {
-                key: Key::clone(key)?,
-                version: **version,
-            }),
+            } => Ok(Op::write(Key::clone(key)?, content_copy(*value)?, **version)),
             OpRef::Got {
                 key,
-                value: Some(value),
+                value,
                 version,
-            } => Ok(Op::Got {
-                key: Key::clone(key)?,
-                value: Value::clone(value)?,
-                version: **version,
-            }),
-            OpRef::Got {
-                key,
-                value: None,
-                version,
-            } => Ok(Op::Gone {
-                key: Key::clone(key)?,
-                version: **version,
-            }),
+            } => Ok(Op::read(Key::clone(key)?, content_copy(*value)?, **version)),
             OpRef::Missed { key } => Ok(Op::Missed {
                 key: Key::clone(key)?,
             }),

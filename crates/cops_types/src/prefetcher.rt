@@ -99,18 +99,18 @@ impl Prefetcher {
             .keys
             .grow(keys.len().saturating_mul(8), MOST_PLACES, NO_KEY);
         if has_grown {
-            self.note_keys(keys);
+            self.store_keys(keys);
         }
     }
 
     /// Stores the numbers of these keys, and no others.
-    fn note_keys(&mut self, keys: &KeySet) {
+    fn store_keys(&mut self, keys: &KeySet) {
         self.keys.fill(NO_KEY);
         for (number, key) in keys.as_slice().iter().enumerate() {
             let Ok(number) = u32::try_from(number) else {
                 return;
             };
-            self.note_key(&key.as_view(), number);
+            self.store_key(&key.as_view(), number);
         }
     }
 
@@ -178,16 +178,16 @@ impl Prefetcher {
     }
 
     /// Stores the number of a key, next to its place if another key has that.
-    pub(crate) fn note_key(&mut self, key: &KeyView<'_>, number: u32) {
+    pub(crate) fn store_key(&mut self, key: &KeyView<'_>, number: u32) {
         let place = spread(key);
         match self.keys.find(place) {
-            Some(NO_KEY) | None => self.keys.note(place, number),
-            Some(_) => self.keys.note(place ^ 1, number),
+            Some(NO_KEY) | None => self.keys.store(place, number),
+            Some(_) => self.keys.store(place ^ 1, number),
         }
     }
 
     /// Stores the number of a put of that version.
-    pub(crate) fn note_put(&mut self, version: Version, number: usize) {
+    pub(crate) fn store_put(&mut self, version: Version, number: usize) {
         let Ok(number) = u32::try_from(number) else {
             return;
         };
@@ -195,7 +195,7 @@ impl Prefetcher {
             tag: tag(version),
             number,
         };
-        self.puts.note(place(version), candidate);
+        self.puts.store(place(version), candidate);
     }
 
     /// The candidate put for a version.

@@ -12,9 +12,9 @@ pub use hex::{bytes, digits};
 pub use nodes::node_event;
 pub use outcomes::{outcome, outcome_text, reported_outcome};
 pub use reading::{
-    deps, format_of, key, keys, mark, no_more, no_node, no_row, only_key, only_version, op, pair,
-    parts, put, split_call, u8_of, u16_of, u32_of, u64_of, usize_of, value, version, version_of,
+    deps, format_of, key, keys, mark, no_row, node_of, op, pair, parts, put, u8_of, u16_of, u32_of,
+    u64_of, usize_of, value, version, version_of,
 };
-pub use reporting::{op_text, pair_text, session_text, value_at, yes_or_no};
+pub use reporting::{found_text, op_text, pair_text, session_text, yes_or_no};
 pub use texts::{Part, add_behind, line_of, lossy, text, word};
 pub use worlds::world_event;

@@ -1,12 +1,12 @@
 -- The lemmas on encodings and decoding that the layers above use. Each holds for every format.
-use Rattle.std.proofs.Common.{◌≡◌, ◌≢◌, ℕ, ◌+◌, ◌<◌, ◌≤◌, List, [], ◌∷◌, ◌++◌, length, take, drop, Result, Ok, Err, refl, sym, ap, subst, ◌∙◌, arith, inl, inr}
+use Rattle.std.proofs.Common.{◌≡◌, ◌≢◌, ℕ, ◌+◌, ◌<◌, ◌≤◌, List, [], ◌∷◌, ◌++◌, length, take, drop, Result, Ok, refl, sym, ap, subst, ◌∙◌, arith, inl, inr}
 use Rattle.std.specs.Int.{w32, from_be_bytes}
 use Rattle.std.proofs.lemmas.Bool.{cases_lt}
 use Rattle.std.proofs.lemmas.List.{take_at, drop_at, take-append-le, length-append}
 use Rattle.cops_types.specs.declared.format.Format.{Format}
 use Rattle.cops_types.specs.Format.{longest_body}
 use Rattle.cops_wire.specs.declared.fault.WireFault.{WireFault}
-use Rattle.cops_wire.specs.declared.fault.WireFault.TheVariants.{Memory, Short, BadField}
+use Rattle.cops_wire.specs.declared.fault.WireFault.TheVariants.{Short}
 use Rattle.cops_wire.specs.declared.message.Message.{Message}
 use Rattle.cops_wire.specs.Field.{u32, encoded_number}
 use Rattle.cops_wire.specs.Answer.{IsBytes, length_at, IsShort, BeginsWithKnown, IsAnswer, IsFromFields}
@@ -15,7 +15,7 @@ use Rattle.cops_wire.specs.Legal.{IsMessage}
 use Rattle.cops_wire.specs.Message.{parts}
 use Rattle.cops_wire.specs.Reading.{frame_at}
 use Rattle.cops_wire.proofs.Fields.{wide}
-use Rattle.cops_wire.proofs.Frames.{short_again, bad_field_place, known_answer, answer_stays, body_fits, encoding_again, only_answer, frame_answers, one_encoding}
+use Rattle.cops_wire.proofs.Frames.{known_answer, body_fits, only_answer, frame_answers, one_encoding}
 use Rattle.cops_wire.proofs.Messages.{parts-same}
 use Rattle.cops_wire.proofs.Answering.{grammar_ok, places_fit}
 
@@ -42,11 +42,6 @@ same_answer format bytes fits a b is_a is_b = answer_is_read format bytes fits a
 pub encoding_answered : (format : Format) (p : Parts) (rest : List ℕ) → IsMessage (grammar format) p
     → IsAnswer (grammar format) (encoding (grammar format) p ++ rest) (Ok (p, length (encoding (grammar format) p)))
 encoding_answered format p rest legal = record { message = legal; rest = rest; front = refl; length_is = refl }
-
--- Reading an encoding gives its message, whatever follows it.
-pub encoding_read : (format : Format) (p : Parts) (rest : List ℕ) → IsMessage (grammar format) p
-    → frame_at (grammar format) (encoding (grammar format) p ++ rest) ≡ Ok (p, length (encoding (grammar format) p))
-encoding_read format p rest legal = encoding_again (grammar format) (grammar_ok format) p rest legal
 
 -- If bytes decode to a message, they are the message's encoding and then the bytes after the used ones.
 pub answer_splits : (format : Format) (bytes : List ℕ) (p : Parts) (used : ℕ) → IsAnswer (grammar format) bytes (Ok (p, used))
@@ -92,25 +87,6 @@ prefix_is_short format p x y legal e more =
 pub known_is_from_fields : (format : Format) (bytes : List ℕ) → IsBytes bytes → BeginsWithKnown (grammar format) bytes → (a : Result (Parts × ℕ) WireFault) → IsAnswer (grammar format) bytes a → IsFromFields a
 known_is_from_fields format bytes fits known a h = known_answer (grammar format) (grammar_ok format) bytes fits known a h
 
--- More bytes change nothing of what is read, except that a frame is not whole.
-pub read_stays : (format : Format) (bytes more : List ℕ) → IsBytes bytes → IsBytes (bytes ++ more) → frame_at (grammar format) bytes ≢ Err Short
-    → frame_at (grammar format) (bytes ++ more) ≡ frame_at (grammar format) bytes
-read_stays format bytes more fits all_fit long =
-    sym (answer_is_read format (bytes ++ more) all_fit (frame_at (grammar format) bytes) (answer_stays (grammar format) bytes more (frame_at (grammar format) bytes) long (frame_answers (grammar format) bytes fits)))
-
--- Reading short bytes gives Short.
-pub short_read : (format : Format) (bytes : List ℕ) → IsShort (grammar format) bytes → frame_at (grammar format) bytes ≡ Err Short
-short_read format bytes h = short_again (grammar format) bytes h
-
--- Reading a proper prefix of an encoding gives Short.
-pub prefix_read : (format : Format) (p : Parts) (x y : List ℕ) → IsMessage (grammar format) p → encoding (grammar format) p ≡ x ++ y → y ≢ [] → frame_at (grammar format) x ≡ Err Short
-prefix_read format p x y legal e more = short_read format x (prefix_is_short format p x y legal e more)
-
--- If reading gives a message, the bytes are its encoding and then the bytes after the used ones.
-pub read_splits : (format : Format) (bytes : List ℕ) (p : Parts) (used : ℕ) → IsBytes bytes → frame_at (grammar format) bytes ≡ Ok (p, used)
-    → IsMessage (grammar format) p × (used ≡ length (encoding (grammar format) p)) × (bytes ≡ encoding (grammar format) p ++ drop used bytes)
-read_splits format bytes p used fits e = answer_splits format bytes p used (read_is_answer format bytes fits (Ok (p, used)) (sym e))
-
 -- The used bytes are within the bytes, and their number is a frame's length.
 pub used_within : (format : Format) (bytes : List ℕ) (p : Parts) (used : ℕ) → IsAnswer (grammar format) bytes (Ok (p, used))
     → (4 < used) × (used ≤ length bytes) × (used ≤ 4 + longest_body format)
@@ -118,11 +94,3 @@ used_within format bytes p used h =
     let bounds = encoding_bounds format p h.message in
     let all : length bytes ≡ length (encoding (grammar format) p) + length h.rest = ap length h.front ∙ length-append (encoding (grammar format) p) h.rest in
     (omega (arith, h.length_is, bounds.0), omega (arith, h.length_is, all), omega (arith, h.length_is, bounds.1))
-
--- A bad field's offset is within the frame.
-pub offset_within : (format : Format) (bytes : List ℕ) (offset : ℕ) → IsAnswer (grammar format) bytes (Err (BadField offset)) → (4 < offset) × (offset ≤ 4 + longest_body format)
-offset_within format bytes offset h = bad_field_place (grammar format) bytes offset h
-
--- Reading never runs out of memory.
-pub read_takes_no_memory : (format : Format) (bytes : List ℕ) → IsBytes bytes → frame_at (grammar format) bytes ≢ Err Memory
-read_takes_no_memory format bytes fits e = subst (IsAnswer (grammar format) bytes) e (frame_answers (grammar format) bytes fits)

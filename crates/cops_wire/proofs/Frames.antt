@@ -346,13 +346,6 @@ whole_not_short len kind (Err faults.Memory) e = absurd cc
 whole_not_short len kind (Err faults.UnknownKind) e = absurd cc
 whole_not_short len kind (Err (faults.BadField left)) e = absurd cc
 
--- a bad field's place is within the frame
-pub bad_field_place : (g : Grammar) (bytes : List ℕ) (offset : ℕ) → HasBadField g bytes offset → (4 < offset) × (offset ≤ 4 + g.longest)
-bad_field_place g bytes offset h =
-    let split : length h.fields ≡ length (encoded_all h.before h.contents) + length h.rest = ap length h.split ∙ length-append (encoded_all h.before h.contents) h.rest in
-    let fits : length (h.kind ∷ h.fields) ≤ g.longest = h.frame.fits in
-    (omega (arith, h.place), omega (arith, h.place, split, fits))
-
 -- a whole frame is not short
 pub frame_not_short : (g : Grammar) → IsGrammar g → (bytes : List ℕ) (kind : ℕ) (fields : List ℕ) → BeginsWithFrame g bytes kind fields → IsShort g bytes → ⊥
 frame_not_short g ok bytes kind fields frame short =

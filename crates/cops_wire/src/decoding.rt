@@ -61,9 +61,11 @@ pub fn decode_in(format: Format, alloc: Global, bytes: &[u8]) -> Result<Decoded,
     frame(format, alloc, bytes)
 }
 
-/// The first three checks, which look at the length. On success they return a whole body.
+/// The body of the frame of a format at the front of some bytes, which is not decoded. It does not look at what follows
+/// the frame. `Short` comes if there are fewer than 4 bytes, or fewer than the frame has; `BadLength`, which is checked
+/// between the two, if the length is 0 or above the format's limit.
 #[tactic(auto, unfolding(crate::specs::Reading::frame_at))]
-pub(crate) fn whole_body(format: Format, bytes: &[u8]) -> Result<&[u8], WireFault>
+pub fn whole_body(format: Format, bytes: &[u8]) -> Result<&[u8], WireFault>
     ensures some { IfOk result (λ text. (0 < length text.now) × (length text.now ≤ longest_body format)) }
     ensures place { IfOk result (λ text. (4 + length text.now ≤ length bytes.now) × (length text.now ≡ length_at bytes.now) × (text.now ≡ take (length_at bytes.now) (drop 4 bytes.now))) }
     ensures reading { IfOk result (λ text. frame_at (grammar format) bytes.now ≡ body_at (grammar format) text.now) }

@@ -13,6 +13,25 @@ use crate::message::Message;
 use crate::table::kinds;
 use cops_types::{Memory, OpRef, PutRecord};
 
+/// Appends the frame of a kind with these fields: those that come first, a key, a value if there is one, a version, and
+/// those that come last.
+macro_rules! append_fields {
+    ($out:ident $kind:literal, [$($first:ident),*] $key:ident $(, $value:ident)?; $at:ident [$($last:ident),*]) => {{
+        // These calls show that the fields are within their ranges.
+        let _key = $key.as_bytes();
+        $(let _value = $value.as_bytes();)?
+        let _version = $at.as_u64();
+        let fields = [
+            $($first,)*
+            FieldRef::Key($key),
+            $(FieldRef::Value($value),)?
+            FieldRef::Version($at),
+            $($last),*
+        ];
+        field::append($out, $kind, &fields)
+    }};
+}
+
 /// The number of a message's kind, 1 to 27.
 pub fn kind(message: &Message) -> u8
     ensures { result ≡ kind_of message.now }
@@ -66,35 +85,23 @@ pub fn encode_put_after(put: &PutRecord, out: &mut Vec<u8>) -> Result<(), Memory
     ensures ok { OnOk result (out.new.items ≡ out.old.items ++ encoding grammar_two (parts (put_after put.now))) }
     ensures err { OnErr result (out.new.items ≡ out.old.items) }
 {
-    // These calls show that the key, the value, the version and the dependencies are within their ranges.
-    let _key = put.key.as_bytes();
-    let _version = put.version.as_u64();
-    let _deps = put.deps.as_slice();
-    match &put.value {
-        Some(value) => {
-            let _value = value.as_bytes();
-            let fields = [
-                FieldRef::Key(&put.key),
-                FieldRef::Value(value),
-                FieldRef::Version(&put.version),
-                FieldRef::Deps(&put.deps),
-            ];
-            field::append(out, 9, &fields)
-        }
-        None => {
-            let fields = [
-                FieldRef::Key(&put.key),
-                FieldRef::Version(&put.version),
-                FieldRef::Deps(&put.deps),
-            ];
-            field::append(out, 25, &fields)
-        }
+    let PutRecord {
+        key,
+        version,
+        value,
+        deps,
+    } = put;
+    let last = FieldRef::Deps(deps);
+    let _deps = deps.as_slice();
+    match value {
+        Some(value) => append_fields!(out 9, [] key, value; version [last]),
+        None => append_fields!(out 25, [] key; version [last]),
     }
 }
 
-/// Appends the frame of the record of a client's operation at this place of its session, which is always legal in format
-/// 2, or where memory runs out nothing. It takes no memory where there is room for the frame, and copies neither the key
-/// nor the value.
+/// Appends the frame of the record of a client's operation at this place of its session, which is always legal in
+/// format 2, or where memory runs out nothing. It takes no memory where there is room for the frame, and copies neither
+/// the key nor the value.
 pub fn encode_record(
     client: u16,
     index: u32,
@@ -108,36 +115,19 @@ pub fn encode_record(
     ensures capacity { vec_capacity out.old ≤ vec_capacity out.new }
 {
     let (client, index) = (FieldRef::U16(&client), FieldRef::U32(&index));
-    macro_rules! append {
-        ($kind:literal, $key:ident $(, $value:ident)?; $version:ident) => {{
-            // These calls show that the fields are within their ranges.
-            let _key = $key.as_bytes();
-            $(let _value = $value.as_bytes();)?
-            let _version = $version.as_u64();
-            let fields = [client, index, FieldRef::Key($key), $(FieldRef::Value($value),)? FieldRef::Version($version)];
-            field::append(out, $kind, &fields)
-        }};
+    macro_rules! append_op {
+        ($op:ident; $($name:ident => $with:literal or $without:literal),*) => {
+            match $op {
+                $(OpRef::$name { key, version, value } => match value {
+                    Some(value) => append_fields!(out $with, [client, index] key, value; version []),
+                    None => append_fields!(out $without, [client, index] key; version []),
+                },)*
+                OpRef::Missed { key } => {
+                    let _key = key.as_bytes();
+                    field::append(out, 20, &[client, index, FieldRef::Key(key)])
+                }
+            }
+        };
     }
-    match op {
-        OpRef::Put {
-            key,
-            version,
-            value,
-        } => match value {
-            Some(value) => append!(18, key, value; version),
-            None => append!(26, key; version),
-        },
-        OpRef::Got {
-            key,
-            version,
-            value,
-        } => match value {
-            Some(value) => append!(19, key, value; version),
-            None => append!(27, key; version),
-        },
-        OpRef::Missed { key } => {
-            let _key = key.as_bytes();
-            field::append(out, 20, &[client, index, FieldRef::Key(key)])
-        }
-    }
+    append_op!(op; Put => 18 or 26, Got => 19 or 27)
 }

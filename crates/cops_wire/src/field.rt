@@ -86,10 +86,10 @@ fn put_field(out: &mut Vec<u8>, field: &FieldRef<'_>)
     ensures room { vec_capacity out.old ≤ vec_capacity out.new }
 {
     match field {
-        FieldRef::U8(n) => put::u8(out, n),
-        FieldRef::U16(n) => put::u16(out, n),
-        FieldRef::U32(n) => put::u32(out, n),
-        FieldRef::U64(n) => put::u64(out, n),
+        FieldRef::U8(n) => put::bytes(out, &n.to_be_bytes()),
+        FieldRef::U16(n) => put::bytes(out, &n.to_be_bytes()),
+        FieldRef::U32(n) => put::bytes(out, &n.to_be_bytes()),
+        FieldRef::U64(n) => put::bytes(out, &n.to_be_bytes()),
         FieldRef::Key(k) => put::key(out, k),
         FieldRef::Value(v) => put::value(out, v),
         FieldRef::Version(v) => put::version(out, v),
@@ -108,8 +108,8 @@ pub(crate) fn append(out: &mut Vec<u8>, kind: u8, fields: &[FieldRef<'_>]) -> Re
 {
     let len = len(kind, fields);
     out.reserve(4 + len)?;
-    put::u32(out, &(len as u32));
-    put::u8(out, &kind);
+    put::bytes(out, &(len as u32).to_be_bytes());
+    put::bytes(out, &[kind]);
     for field in fields {
         put_field(out, field);
     }

@@ -32,7 +32,7 @@ mod showing;
 mod table;
 
 pub use buffer::Buffer;
-pub use decoding::{Decoded, decode, decode_in};
+pub use decoding::{Decoded, decode, decode_in, whole_body};
 pub use encoding::{body_len, encode, encode_put_after, encode_record, kind};
 pub use fault::WireFault;
 pub use feeder::Feeder;

@@ -3,7 +3,7 @@ ghost use Rattle.std.specs.Prelude.{◌≡◌, ◌≤◌, length, take, drop, If
 ghost use Rattle.cops_wire.specs.Field.{u8, u16, u32, u64, key};
 ghost use Rattle.cops_types.specs.declared.limits.TheConstants.{MAX_KEY};
 ghost use Rattle.cops_types.specs.Format.{most_value, most_deps};
-ghost use Rattle.cops_wire.specs.Grammar.{grammar, grammar_two, value, deps};
+ghost use Rattle.cops_wire.specs.Grammar.{grammar, value, deps};
 ghost use Rattle.cops_wire.specs.Kind.{IsOneOf, kind_of};
 ghost use Rattle.cops_wire.specs.Reading.{GivesField, GivesNumber, GivesContents, number_at, number_in_at, string_at, version_at, pair_at, pairs_at, deps_at, GivesPart};
 
@@ -104,7 +104,7 @@ impl<'a> Rest<'a> {
     pub(crate) fn take(&mut self, len: usize) -> &'a [u8]
         requires { len ≤ length self.old.bytes.now }
         ensures format { self.new.format ≡ self.old.format }
-        ensures front { result.now ≡ take len self.old.bytes.now }
+        ensures taken { result.now ≡ take len self.old.bytes.now }
         ensures rest { self.new.bytes.now ≡ drop len self.old.bytes.now }
     {
         let (front, rest) = self.bytes.split_at(len);
@@ -377,17 +377,10 @@ impl<'a> Rest<'a> {
     {
         match self.format {
             Format::One => Err(ReadFault::UnknownKind),
-            Format::Two => self.deletion_of_two(kind),
+            Format::Two => {
+                let rest = self;
+                kinds!(group deletion read kind rest)
+            }
         }
-    }
-
-    fn deletion_of_two(&mut self, kind: u8) -> Result<Message, ReadFault>
-        requires kind { IsOneOf DELETION.now kind }
-        requires format { self.old.format ≡ Format.Two }
-        ensures contents { GivesContents grammar_two kind self.old.bytes.now result self.new.bytes.now }
-        ensures kind { IfOk result (λ m. kind_of m ≡ kind) }
-    {
-        let rest = self;
-        kinds!(group deletion read kind rest)
     }
 }

@@ -17,52 +17,27 @@ pub struct TraceRecord {
 pub fn record_of_message(message: Message) -> Option<TraceRecord>
     ensures { result ≡ record_of_message message }
 {
-    let (client, index, op) = match message {
-        Message::TracePut {
-            client,
-            index,
-            key,
-            value,
-            version,
-        } => {
-            let op = Op::Put {
-                key,
-                value,
-                version,
-            };
-            (client, index, op)
-        }
-        Message::TraceGot {
-            client,
-            index,
-            key,
-            value,
-            version,
-        } => {
-            let op = Op::Got {
-                key,
-                value,
-                version,
-            };
-            (client, index, op)
-        }
-        Message::TraceMissed { client, index, key } => (client, index, Op::Missed { key }),
-        Message::TraceDel {
-            client,
-            index,
-            key,
-            version,
-        } => (client, index, Op::Del { key, version }),
-        Message::TraceGone {
-            client,
-            index,
-            key,
-            version,
-        } => (client, index, Op::Gone { key, version }),
-        other => {
-            drop(other);
-            return None;
-        }
-    };
-    Some(TraceRecord { client, index, op })
+    macro_rules! record {
+        ($message:ident; $($name:ident => $op:ident { $($field:ident),* })*) => {
+            match $message {
+                $(Message::$name { client, index, $($field),* } => Some(TraceRecord {
+                    client,
+                    index,
+                    op: Op::$op { $($field),* },
+                }),)*
+                other => {
+                    drop(other);
+                    None
+                }
+            }
+        };
+    }
+    record! {
+        message;
+        TracePut => Put { key, value, version }
+        TraceGot => Got { key, value, version }
+        TraceMissed => Missed { key }
+        TraceDel => Del { key, version }
+        TraceGone => Gone { key, version }
+    }
 }

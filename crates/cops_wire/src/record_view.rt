@@ -2,10 +2,10 @@
 ghost use Rattle.std.specs.Prelude.{◌≡◌, ◌<◌, ◌≤◌, Ok, IfOk, IfSome, length};
 ghost use Rattle.cops_types.specs.Format.{longest_body};
 ghost use Rattle.cops_wire.specs.Answer.{IsAnswer};
-ghost use Rattle.cops_wire.specs.Grammar.{grammar, grammar_two};
+ghost use Rattle.cops_wire.specs.Grammar.{grammar};
 ghost use Rattle.cops_wire.specs.Kind.{contents_of, kind_of};
 ghost use Rattle.cops_wire.specs.Message.{parts};
-ghost use Rattle.cops_wire.specs.Reading.{body_at, contents_at, frame_at};
+ghost use Rattle.cops_wire.specs.Reading.{body_at, contents_at};
 ghost use Rattle.cops_wire.specs.Records.{borrowed_message};
 
 use crate::decoding::whole_body;
@@ -23,121 +23,29 @@ pub struct RecordView<'a> {
     pub used: usize,
 }
 
+/// Reads the fields of a record from left to right: the client, the index, the key, the value if the operation has one,
+/// and the version if the operation has one. Returns from the function on a fault.
+macro_rules! view {
+    ($rest:ident $used:ident; $name:ident $($value:ident: $content:expr, $version:ident)?) => {{
+        let client = $rest.u16()?;
+        let index = $rest.u32()?;
+        let key = $rest.key_view()?;
+        $(let $value = $content;
+        let $version = $rest.version()?;)?
+        let op = OpView::$name { key, $($value, $version)? };
+        Ok(RecordView { client, index, op, used: $used })
+    }};
+}
+
 impl<'a> Rest<'a> {
-    /// The put whose fields stand at the front.
-    #[inline(always)]
-    fn put_view(&mut self, used: usize) -> Result<RecordView<'a>, ReadFault>
-        ensures { IfOk result (λ r. (kind_of (borrowed_message r) ≡ 18) × (r.used ≡ used) × (contents_at (grammar self.old.format) 18 self.old.bytes.now ≡ Ok (contents_of (borrowed_message r), self.new.bytes.now))) }
-    {
-        let client = self.u16()?;
-        let index = self.u32()?;
-        let key = self.key_view()?;
-        let value = self.value_view()?;
-        let version = self.version()?;
-        let op = OpView::Put {
-            key,
-            value: Some(value),
-            version,
-        };
-        Ok(RecordView {
-            client,
-            index,
-            op,
-            used,
-        })
-    }
-
-    /// The get that returned a value, whose fields stand at the front.
-    #[inline(always)]
-    fn got_view(&mut self, used: usize) -> Result<RecordView<'a>, ReadFault>
-        ensures { IfOk result (λ r. (kind_of (borrowed_message r) ≡ 19) × (r.used ≡ used) × (contents_at (grammar self.old.format) 19 self.old.bytes.now ≡ Ok (contents_of (borrowed_message r), self.new.bytes.now))) }
-    {
-        let client = self.u16()?;
-        let index = self.u32()?;
-        let key = self.key_view()?;
-        let value = self.value_view()?;
-        let version = self.version()?;
-        let op = OpView::Got {
-            key,
-            value: Some(value),
-            version,
-        };
-        Ok(RecordView {
-            client,
-            index,
-            op,
-            used,
-        })
-    }
-
-    /// The get that found nothing, whose fields stand at the front.
-    #[inline(always)]
-    fn missed_view(&mut self, used: usize) -> Result<RecordView<'a>, ReadFault>
-        ensures { IfOk result (λ r. (kind_of (borrowed_message r) ≡ 20) × (r.used ≡ used) × (contents_at (grammar self.old.format) 20 self.old.bytes.now ≡ Ok (contents_of (borrowed_message r), self.new.bytes.now))) }
-    {
-        let client = self.u16()?;
-        let index = self.u32()?;
-        let key = self.key_view()?;
-        let op = OpView::Missed { key };
-        Ok(RecordView {
-            client,
-            index,
-            op,
-            used,
-        })
-    }
-
-    /// The deletion whose fields stand at the front.
-    fn del_view(&mut self, used: usize) -> Result<RecordView<'a>, ReadFault>
-        requires { self.old.format ≡ Format.Two }
-        ensures { IfOk result (λ r. (kind_of (borrowed_message r) ≡ 26) × (r.used ≡ used) × (contents_at grammar_two 26 self.old.bytes.now ≡ Ok (contents_of (borrowed_message r), self.new.bytes.now))) }
-    {
-        let client = self.u16()?;
-        let index = self.u32()?;
-        let key = self.key_view()?;
-        let version = self.version()?;
-        let op = OpView::Put {
-            key,
-            value: None,
-            version,
-        };
-        Ok(RecordView {
-            client,
-            index,
-            op,
-            used,
-        })
-    }
-
-    /// The get that found a deletion, whose fields stand at the front.
-    fn gone_view(&mut self, used: usize) -> Result<RecordView<'a>, ReadFault>
-        requires { self.old.format ≡ Format.Two }
-        ensures { IfOk result (λ r. (kind_of (borrowed_message r) ≡ 27) × (r.used ≡ used) × (contents_at grammar_two 27 self.old.bytes.now ≡ Ok (contents_of (borrowed_message r), self.new.bytes.now))) }
-    {
-        let client = self.u16()?;
-        let index = self.u32()?;
-        let key = self.key_view()?;
-        let version = self.version()?;
-        let op = OpView::Got {
-            key,
-            value: None,
-            version,
-        };
-        Ok(RecordView {
-            client,
-            index,
-            op,
-            used,
-        })
-    }
-
     /// The record of this kind, one of those of format 2 alone, whose fields stand at the front.
     fn deletion_view(&mut self, kind: u8, used: usize) -> Result<RecordView<'a>, ReadFault>
         ensures { IfOk result (λ r. (kind_of (borrowed_message r) ≡ kind) × (r.used ≡ used) × (contents_at (grammar self.old.format) kind self.old.bytes.now ≡ Ok (contents_of (borrowed_message r), self.new.bytes.now))) }
     {
-        match (self.format, kind) {
-            (Format::Two, 26) => self.del_view(used),
-            (Format::Two, 27) => self.gone_view(used),
+        let rest = self;
+        match (rest.format, kind) {
+            (Format::Two, 26) => view!(rest used; Put value: None, version),
+            (Format::Two, 27) => view!(rest used; Got value: None, version),
             _ => Err(ReadFault::UnknownKind),
         }
     }
@@ -147,11 +55,12 @@ impl<'a> Rest<'a> {
     fn record_view(&mut self, kind: u8, used: usize) -> Result<RecordView<'a>, ReadFault>
         ensures { IfOk result (λ r. (kind_of (borrowed_message r) ≡ kind) × (r.used ≡ used) × (contents_at (grammar self.old.format) kind self.old.bytes.now ≡ Ok (contents_of (borrowed_message r), self.new.bytes.now))) }
     {
+        let rest = self;
         match kind {
-            18 => self.put_view(used),
-            19 => self.got_view(used),
-            20 => self.missed_view(used),
-            _ => self.deletion_view(kind, used),
+            18 => view!(rest used; Put value: Some(rest.value_view()?), version),
+            19 => view!(rest used; Got value: Some(rest.value_view()?), version),
+            20 => view!(rest used; Missed),
+            _ => rest.deletion_view(kind, used),
         }
     }
 }

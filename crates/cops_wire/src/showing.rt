@@ -1,7 +1,6 @@
 //! Showing a message as a line of text.
-ghost use Rattle.std.specs.Prelude.{◌≡◌, ◌<◌, ◌≤◌, ◌++◌, OnOk, OnErr, IfOk, string_bytes, codes};
+ghost use Rattle.std.specs.Prelude.{◌≡◌, ◌<◌, ◌++◌, OnOk, OnErr, IfOk, string_bytes, codes};
 ghost use Rattle.std.specs.List.{join_by};
-ghost use Rattle.cops_wire.specs.Kind.{kind_of};
 ghost use Rattle.cops_wire.specs.Shown.{shown, is_plain, byte_text, bytes_text, pair_text, deps_text};
 ghost use Rattle.cops_wire.specs.Lines.{field_text, named_text, fields_text};
 

@@ -2,13 +2,12 @@
 
 use crate::words::Part::{At, Count, Number, Word};
 use crate::words::{
-    no_more, no_node, no_row, node_event, outcome_text, reported_outcome, split_call, text, u16_of,
-    u64_of, usize_of,
+    no_row, node_event, node_of, outcome_text, reported_outcome, text, u64_of, usize_of,
 };
 use anyhow::{Error, bail};
 use cops_node::NodeEvent;
 use cops_tie::{Book, Entry};
-use cops_types::{NODES, Version};
+use cops_types::Version;
 use std::alloc::Global;
 
 /// `COUNT entries`.
@@ -17,24 +16,15 @@ pub fn entries_text(alloc: Global, count: usize) -> Result<String, Error> {
 }
 
 /// Replaces the book by a new one.
-fn begin(alloc: Global, book: &mut Book, words: &[&str]) -> Result<String, Error> {
-    let [number] = words else {
-        return Err(no_row());
-    };
-    let number = u16_of(number)?;
-    if number >= NODES {
-        return Err(no_node());
-    }
-    drop(std::mem::replace(book, Book::open(alloc, number)));
+fn begin(alloc: Global, book: &mut Book, number: &str) -> Result<String, Error> {
+    let opened = Book::open(alloc, node_of(number)?);
+    drop(std::mem::replace(book, opened));
     entries_text(alloc, book.entries().len())
 }
 
-fn step(alloc: Global, book: &mut Book, words: &[&str]) -> Result<String, Error> {
-    let [ticket, rest @ ..] = words else {
-        return Err(no_row());
-    };
+fn step(alloc: Global, book: &mut Book, ticket: &str, event: &[&str]) -> Result<String, Error> {
     let ticket = u64_of(ticket)?;
-    let event = node_event(alloc, rest)?;
+    let event = node_event(alloc, event)?;
     reported_outcome(alloc, book.step(ticket, event))
 }
 
@@ -97,10 +87,7 @@ fn entry_text(alloc: Global, entry: &Entry) -> Result<String, Error> {
 }
 
 /// The entry at an index.
-fn entry(alloc: Global, book: &Book, words: &[&str]) -> Result<String, Error> {
-    let [index] = words else {
-        return Err(no_row());
-    };
+fn entry(alloc: Global, book: &Book, index: &str) -> Result<String, Error> {
     match book.entries().get(usize_of(index)?) {
         Some(entry) => entry_text(alloc, entry),
         None => bail!("there is no such entry"),
@@ -130,24 +117,15 @@ fn close(alloc: Global, book: &mut Book) -> Result<String, Error> {
     entries_text(alloc, count)
 }
 
-/// The answer to a call of one word, which no other word may follow.
-fn ask(alloc: Global, book: &mut Book, what: &str, rest: &[&str]) -> Result<String, Error> {
-    no_more(rest)?;
-    match what {
-        "counts" => entries_text(alloc, book.entries().len()),
-        "node" => node(alloc, book),
-        "close" => close(alloc, book),
-        _ => Err(no_row()),
-    }
-}
-
 /// The answer to a call.
 pub fn answer(alloc: Global, book: &mut Book, words: &[&str]) -> Result<String, Error> {
-    let (what, rest) = split_call(words)?;
-    match what {
-        "new" => begin(alloc, book, rest),
-        "step" => step(alloc, book, rest),
-        "entry" => entry(alloc, book, rest),
-        what => ask(alloc, book, what, rest),
+    match words {
+        ["new", number] => begin(alloc, book, number),
+        ["step", ticket, event @ ..] => step(alloc, book, ticket, event),
+        ["entry", index] => entry(alloc, book, index),
+        ["counts"] => entries_text(alloc, book.entries().len()),
+        ["node"] => node(alloc, book),
+        ["close"] => close(alloc, book),
+        _ => Err(no_row()),
     }
 }

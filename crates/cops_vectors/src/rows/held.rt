@@ -1,7 +1,7 @@
 //! Test cases of the puts that wait at a node.
 
 use crate::words::Part::{At, Bytes, Count, Number, Word};
-use crate::words::{mark, no_more, no_row, only_version, put, split_call, text, word, yes_or_no};
+use crate::words::{mark, no_row, put, text, version, word, yes_or_no};
 use anyhow::Error;
 use cops_held::{Held, HeldFault, Taken};
 use cops_types::PutRecord;
@@ -35,8 +35,8 @@ fn refused(alloc: Global, fault: HeldFault) -> Result<String, Error> {
 }
 
 /// The indexes of the dependencies that are not marked.
-fn open(alloc: Global, held: &Held, words: &[&str]) -> Result<String, Error> {
-    let open = held.open_deps(only_version(words)?)?;
+fn open(alloc: Global, held: &Held, at: &str) -> Result<String, Error> {
+    let open = held.open_deps(version(at)?)?;
     Ok(format!(in alloc; "{open:?}")?)
 }
 
@@ -60,8 +60,8 @@ fn put_text(alloc: Global, put: &PutRecord) -> Result<String, Error> {
     }
 }
 
-fn take(alloc: Global, held: &mut Held, words: &[&str]) -> Result<String, Error> {
-    match held.take_ready(only_version(words)?) {
+fn take(alloc: Global, held: &mut Held, at: &str) -> Result<String, Error> {
+    match held.take_ready(version(at)?) {
         Ok(put) => {
             let reported = put_text(alloc, &put);
             drop(put);
@@ -71,31 +71,19 @@ fn take(alloc: Global, held: &mut Held, words: &[&str]) -> Result<String, Error>
     }
 }
 
-fn has(alloc: Global, held: &Held, words: &[&str]) -> Result<String, Error> {
-    let version = only_version(words)?;
-    yes_or_no(alloc, held.record(version).is_some())
-}
-
-/// The answer to a call of one word, which no other word may follow.
-fn ask(alloc: Global, held: &mut Held, what: &str, rest: &[&str]) -> Result<String, Error> {
-    no_more(rest)?;
-    match what {
-        "new" => drop(std::mem::replace(held, Held::new(alloc))),
-        "counts" => {}
-        _ => return Err(no_row()),
-    }
-    counts(alloc, held)
-}
-
 /// The answer to a call.
 pub fn answer(alloc: Global, held: &mut Held, words: &[&str]) -> Result<String, Error> {
-    let (what, rest) = split_call(words)?;
-    match what {
-        "hold" => hold(alloc, held, rest),
-        "open" => open(alloc, held, rest),
-        "has" => has(alloc, held, rest),
-        "mark" => marked(alloc, held, rest),
-        "take" => take(alloc, held, rest),
-        what => ask(alloc, held, what, rest),
+    match words {
+        ["new"] => {
+            drop(std::mem::replace(held, Held::new(alloc)));
+            counts(alloc, held)
+        }
+        ["counts"] => counts(alloc, held),
+        ["hold", rest @ ..] => hold(alloc, held, rest),
+        ["open", at] => open(alloc, held, at),
+        ["has", at] => yes_or_no(alloc, held.record(version(at)?).is_some()),
+        ["mark", rest @ ..] => marked(alloc, held, rest),
+        ["take", at] => take(alloc, held, at),
+        _ => Err(no_row()),
     }
 }

@@ -2,11 +2,10 @@
 
 use crate::words::Part::{Count, Word};
 use crate::words::{
-    add_behind, no_more, no_row, op, op_text, session_text, split_call, text, u16_of, u32_of, word,
-    yes_or_no,
+    add_behind, no_row, op, op_text, session_text, text, u16_of, u32_of, word, yes_or_no,
 };
 use anyhow::{Error, bail};
-use cops_types::{History, OpName, SessionRef};
+use cops_types::{History, OpName, OpRef, SessionRef};
 use std::alloc::Global;
 
 /// How many clients there are, and how many operations.
@@ -26,40 +25,41 @@ fn begin(alloc: Global, history: &mut Option<History>, clients: &str) -> Result<
     reported
 }
 
-fn reserve(alloc: Global, history: &mut History, words: &[&str]) -> Result<String, Error> {
-    let [client] = words else {
-        return Err(no_row());
-    };
+fn reserve(alloc: Global, history: &mut History, client: &str) -> Result<String, Error> {
     history.reserve(u16_of(client)?)?;
     counts(alloc, history)
 }
 
-fn push(alloc: Global, history: &mut History, words: &[&str]) -> Result<String, Error> {
-    let [client, rest @ ..] = words else {
-        return Err(no_row());
-    };
+fn push(
+    alloc: Global,
+    history: &mut History,
+    client: &str,
+    words: &[&str],
+) -> Result<String, Error> {
     let client = u16_of(client)?;
-    let op = op(alloc, rest)?;
+    let op = op(alloc, words)?;
     history.push(client, op)?;
     counts(alloc, history)
 }
 
 /// The name `CLIENT INDEX` of an operation.
-pub fn name(words: &[&str]) -> Result<OpName, Error> {
-    let [client, index] = words else {
-        return Err(no_row());
-    };
+pub fn name(client: &str, index: &str) -> Result<OpName, Error> {
     let client = u16_of(client)?;
     let index = u32_of(index)?;
     Ok(OpName { client, index })
 }
 
-/// The operation of a name.
-pub fn op_at(alloc: Global, history: &History, words: &[&str]) -> Result<String, Error> {
-    match history.op(name(words)?) {
+/// The text of an operation, if there is one.
+fn some_text(alloc: Global, op: Option<OpRef<'_>>) -> Result<String, Error> {
+    match op {
         Some(op) => op_text(alloc, &op),
         None => word(alloc, "nothing"),
     }
+}
+
+/// The operation of a name.
+pub fn op_at(alloc: Global, history: &History, client: &str, index: &str) -> Result<String, Error> {
+    some_text(alloc, history.op(name(client, index)?))
 }
 
 /// The operations of a session, one after the other.
@@ -73,10 +73,12 @@ fn listed(alloc: Global, session: &SessionRef<'_>) -> Result<String, Error> {
 }
 
 /// The operations of a client's session, or the one at an index.
-fn operations(alloc: Global, history: &History, words: &[&str]) -> Result<String, Error> {
-    let [client, rest @ ..] = words else {
-        return Err(no_row());
-    };
+fn operations(
+    alloc: Global,
+    history: &History,
+    client: &str,
+    rest: &[&str],
+) -> Result<String, Error> {
     let session = history.session(u16_of(client)?);
     if session.is_empty() {
         return word(alloc, "none");
@@ -90,55 +92,33 @@ fn operations(alloc: Global, history: &History, words: &[&str]) -> Result<String
     }
 }
 
-/// The number of pending reads; or the one at an index; or the index of the one of a name.
-fn open_gets(alloc: Global, history: &History, words: &[&str]) -> Result<String, Error> {
-    if words.is_empty() {
-        return text(alloc, &[Count(history.open_gets()), Word(" open gets")]);
-    }
-    if let [number] = words {
-        return match history.open_get(u32_of(number)?) {
-            Some(op) => op_text(alloc, &op),
-            None => word(alloc, "nothing"),
-        };
-    }
-    match history.open_number(name(words)?) {
+/// The index of the pending read of a name.
+fn pending_number(alloc: Global, history: &History, name: OpName) -> Result<String, Error> {
+    match history.pending_number(name) {
         Some(number) => text(alloc, &[Word("number "), Count(number as usize)]),
         None => word(alloc, "none"),
     }
 }
 
-/// Whether each put has a greater version than its session has seen before it; of all clients, or of one.
-fn above(alloc: Global, history: &History, words: &[&str]) -> Result<String, Error> {
-    let is_above = match words {
-        [] => history.are_puts_above(),
-        [client] => history.is_session_above(u16_of(client)?),
-        _ => return Err(no_row()),
-    };
-    yes_or_no(alloc, is_above)
-}
-
-/// The answer to a call of one word, which no other word may follow.
-fn ask(alloc: Global, history: &History, what: &str, rest: &[&str]) -> Result<String, Error> {
-    no_more(rest)?;
-    match what {
-        "counts" => counts(alloc, history),
-        "empty" => yes_or_no(alloc, history.is_empty()),
-        _ => Err(no_row()),
-    }
-}
-
 /// The answer to a call on the current history.
 fn ask_any(alloc: Global, history: &mut History, words: &[&str]) -> Result<String, Error> {
-    let (what, rest) = split_call(words)?;
-    match what {
-        "reserve" => reserve(alloc, history, rest),
-        "push" => push(alloc, history, rest),
-        "session" => session_text(alloc, history, rest),
-        "op" => op_at(alloc, history, rest),
-        "operations" => operations(alloc, history, rest),
-        "open" => open_gets(alloc, history, rest),
-        "above" => above(alloc, history, rest),
-        what => ask(alloc, history, what, rest),
+    match words {
+        ["counts"] => counts(alloc, history),
+        ["empty"] => yes_or_no(alloc, history.is_empty()),
+        ["reserve", client] => reserve(alloc, history, client),
+        ["push", client, op @ ..] => push(alloc, history, client, op),
+        ["session", client] => session_text(alloc, history, client),
+        ["op", client, index] => op_at(alloc, history, client, index),
+        ["operations", client, rest @ ..] => operations(alloc, history, client, rest),
+        ["pending"] => text(
+            alloc,
+            &[Count(history.pending_reads()), Word(" pending reads")],
+        ),
+        ["pending", number] => some_text(alloc, history.pending_read(u32_of(number)?)),
+        ["pending", client, index] => pending_number(alloc, history, name(client, index)?),
+        ["above"] => yes_or_no(alloc, history.are_puts_above()),
+        ["above", client] => yes_or_no(alloc, history.is_session_above(u16_of(client)?)),
+        _ => Err(no_row()),
     }
 }
 

@@ -2,24 +2,16 @@
 
 use crate::words::Part::{Number, Word};
 use crate::words::{
-    mark, no_more, no_node, no_row, node_event, only_key, pair_text, reported_outcome, split_call,
-    text, u16_of, value_at, word,
+    found_text, key, mark, node_event, node_of, pair_text, reported_outcome, text, word,
 };
 use anyhow::Error;
 use cops_node::{Node, NodeEvent, Outcome};
-use cops_types::NODES;
 use std::alloc::Global;
 
 /// Replaces the node by a new one.
-fn begin(alloc: Global, node: &mut Node, words: &[&str]) -> Result<String, Error> {
-    let [number] = words else {
-        return Err(no_row());
-    };
-    let number = u16_of(number)?;
-    if number >= NODES {
-        return Err(no_node());
-    }
-    drop(std::mem::replace(node, Node::open(alloc, number)));
+fn begin(alloc: Global, node: &mut Node, number: &str) -> Result<String, Error> {
+    let opened = Node::open(alloc, node_of(number)?);
+    drop(std::mem::replace(node, opened));
     text(alloc, &[Word("node "), Number(u64::from(node.number()))])
 }
 
@@ -60,8 +52,7 @@ fn call(alloc: Global, node: &mut Node, words: &[&str]) -> Result<String, Error>
 }
 
 /// The node's clock, and the counts of its parts.
-fn status(alloc: Global, node: &Node, words: &[&str]) -> Result<String, Error> {
-    no_more(words)?;
+fn status(alloc: Global, node: &Node) -> Result<String, Error> {
     let status = node.status();
     let parts = [
         Word("clock "),
@@ -76,10 +67,10 @@ fn status(alloc: Global, node: &Node, words: &[&str]) -> Result<String, Error> {
     text(alloc, &parts)
 }
 
-fn shown(alloc: Global, node: &Node, words: &[&str]) -> Result<String, Error> {
-    let key = only_key(alloc, words)?;
+fn shown(alloc: Global, node: &Node, name: &str) -> Result<String, Error> {
+    let key = key(alloc, name)?;
     let reported = match node.shown(&key) {
-        Some((value, version)) => value_at(alloc, value, version),
+        Some((value, version)) => found_text(alloc, value, version),
         None => word(alloc, "nothing"),
     };
     drop(key);
@@ -96,13 +87,12 @@ fn dep_of(alloc: Global, node: &Node, words: &[&str]) -> Result<String, Error> {
 
 /// The answer to a call.
 pub fn answer(alloc: Global, node: &mut Node, words: &[&str]) -> Result<String, Error> {
-    let (what, rest) = split_call(words)?;
-    match what {
-        "new" => begin(alloc, node, rest),
-        "status" => status(alloc, node, rest),
-        "shown" => shown(alloc, node, rest),
-        "dep" => dep_of(alloc, node, rest),
-        "step" => step(alloc, node, rest),
+    match words {
+        ["new", number] => begin(alloc, node, number),
+        ["status"] => status(alloc, node),
+        ["shown", name] => shown(alloc, node, name),
+        ["dep", rest @ ..] => dep_of(alloc, node, rest),
+        ["step", rest @ ..] => step(alloc, node, rest),
         _ => call(alloc, node, words),
     }
 }

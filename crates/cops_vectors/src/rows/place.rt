@@ -1,7 +1,7 @@
 //! Test cases of the placement of keys.
 
 use crate::words::Part::{Number, Word};
-use crate::words::{key, keys, no_row, only_key, split_call, text, u8_of};
+use crate::words::{key, keys, no_row, text, u8_of};
 use anyhow::{Error, bail};
 use cops_place::Place;
 use std::alloc::Global;
@@ -27,17 +27,14 @@ pub fn open(alloc: Global, dcs: &str, splits: &str) -> Result<Place, Error> {
     Ok(Place::new(dcs, splits)?)
 }
 
-fn primary(alloc: Global, place: &Place, words: &[&str]) -> Result<String, Error> {
-    let key = only_key(alloc, words)?;
+fn primary(alloc: Global, place: &Place, name: &str) -> Result<String, Error> {
+    let key = key(alloc, name)?;
     let primary = place.primary(&key);
     drop(key);
     text(alloc, &[Number(u64::from(primary))])
 }
 
-fn node(alloc: Global, place: &Place, words: &[&str]) -> Result<String, Error> {
-    let [dc, name] = words else {
-        return Err(no_row());
-    };
+fn node(alloc: Global, place: &Place, dc: &str, name: &str) -> Result<String, Error> {
     let dc = u8_of(dc)?;
     let key = key(alloc, name)?;
     if dc >= place.dcs() {
@@ -50,12 +47,9 @@ fn node(alloc: Global, place: &Place, words: &[&str]) -> Result<String, Error> {
 }
 
 /// The node of a key in a copy of the place.
-fn copy_node(alloc: Global, place: &Place, words: &[&str]) -> Result<String, Error> {
-    let ["node", rest @ ..] = words else {
-        return Err(no_row());
-    };
+fn copy_node(alloc: Global, place: &Place, dc: &str, name: &str) -> Result<String, Error> {
     let copy = place.clone()?;
-    let reported = node(alloc, &copy, rest);
+    let reported = node(alloc, &copy, dc, name);
     drop(copy);
     reported
 }
@@ -75,11 +69,10 @@ fn begin(
 
 /// The answer to a call on the current place.
 fn ask_any(alloc: Global, place: &Place, words: &[&str]) -> Result<String, Error> {
-    let (what, rest) = split_call(words)?;
-    match what {
-        "primary" => primary(alloc, place, rest),
-        "node" => node(alloc, place, rest),
-        "copy" => copy_node(alloc, place, rest),
+    match words {
+        ["primary", name] => primary(alloc, place, name),
+        ["node", dc, name] => node(alloc, place, dc, name),
+        ["copy", "node", dc, name] => copy_node(alloc, place, dc, name),
         _ => Err(no_row()),
     }
 }

@@ -1,7 +1,7 @@
 //! Test cases of scenario files.
 
 use crate::words::Part::{At, Bytes, Count, Number, Word};
-use crate::words::{line_of, no_more, no_row, outcome, split_call, text, usize_of, word};
+use crate::words::{line_of, no_row, outcome, text, usize_of, word};
 use anyhow::{Error, bail};
 use cops_core::Event;
 use cops_node::Outcome;
@@ -36,10 +36,7 @@ fn begin(alloc: Global, scenario: &mut Option<Scenario>, text: &str) -> Result<S
 }
 
 /// Where a client lives, and how long its script is.
-fn client(alloc: Global, scenario: &Scenario, words: &[&str]) -> Result<String, Error> {
-    let [number] = words else {
-        return Err(no_row());
-    };
+fn client(alloc: Global, scenario: &Scenario, number: &str) -> Result<String, Error> {
     match scenario.clients().get(usize_of(number)?) {
         Some(client) => {
             let (at, length) = (Number(u64::from(client.at)), Count(client.script.len()));
@@ -52,23 +49,34 @@ fn client(alloc: Global, scenario: &Scenario, words: &[&str]) -> Result<String, 
     }
 }
 
+/// What a client does to a key: `WHAT KEY`, and `=VALUE` if there is a value.
+fn done_text<'a>(
+    alloc: Global,
+    what: &'a str,
+    key: &'a Key,
+    value: Option<&'a Value>,
+) -> Result<String, Error> {
+    let key = Bytes(key.as_bytes());
+    match value {
+        Some(value) => text(
+            alloc,
+            &[Word(what), key, Word("="), Bytes(value.as_bytes())],
+        ),
+        None => text(alloc, &[Word(what), key]),
+    }
+}
+
 /// The text of an operation of a script.
 fn op_text(alloc: Global, op: &ScriptOp) -> Result<String, Error> {
     match op {
-        ScriptOp::Put { key, value } => {
-            let (key, value) = (key.as_bytes(), value.as_bytes());
-            text(alloc, &[Word("put "), Bytes(key), Word("="), Bytes(value)])
-        }
-        ScriptOp::Del { key } => text(alloc, &[Word("del "), Bytes(key.as_bytes())]),
-        ScriptOp::Get { key } => text(alloc, &[Word("get "), Bytes(key.as_bytes())]),
+        ScriptOp::Put { key, value } => done_text(alloc, "put ", key, Some(value)),
+        ScriptOp::Del { key } => done_text(alloc, "del ", key, None),
+        ScriptOp::Get { key } => done_text(alloc, "get ", key, None),
     }
 }
 
 /// An operation of a script, by its client and its index.
-fn script(alloc: Global, scenario: &Scenario, words: &[&str]) -> Result<String, Error> {
-    let [number, index] = words else {
-        return Err(no_row());
-    };
+fn script(alloc: Global, scenario: &Scenario, number: &str, index: &str) -> Result<String, Error> {
     let Some(client) = scenario.clients().get(usize_of(number)?) else {
         bail!("there is no such client");
     };
@@ -86,35 +94,13 @@ fn events(alloc: Global, scenario: &Scenario) -> Result<String, Error> {
     }
 }
 
-fn client_put<'a>(
-    alloc: Global,
-    client: u16,
-    key: &'a Key,
-    value: &'a Value,
-) -> Result<String, Error> {
-    let client = u64::from(client);
-    let (key, value) = (key.as_bytes(), value.as_bytes());
-    let parts = [
-        Word("client "),
-        Number(client),
-        Word(": put "),
-        Bytes(key),
-        Word("="),
-        Bytes(value),
-    ];
-    text(alloc, &parts)
-}
-
-/// An event of a client on a key.
-fn client_does<'a>(
-    alloc: Global,
-    client: u16,
-    what: &'a str,
-    key: &'a Key,
-) -> Result<String, Error> {
-    let client = u64::from(client);
-    let key = Bytes(key.as_bytes());
-    text(alloc, &[Word("client "), Number(client), Word(what), key])
+/// An event of a client: what it does to a key.
+fn of_client(alloc: Global, client: u16, done: Result<String, Error>) -> Result<String, Error> {
+    let (client, done) = (u64::from(client), done?);
+    text(
+        alloc,
+        &[Word("client "), Number(client), Word(": "), Word(&done)],
+    )
 }
 
 /// An event about a version at a data centre.
@@ -143,9 +129,19 @@ fn mark_text(alloc: Global, dc: u8, version: Version, dep: u16) -> Result<String
 /// The text of a world's event.
 fn event_text(alloc: Global, event: &Event) -> Result<String, Error> {
     match event {
-        Event::Put { client, key, value } => client_put(alloc, *client, key, value),
-        Event::Del { client, key } => client_does(alloc, *client, ": del ", key),
-        Event::Get { client, key } => client_does(alloc, *client, ": get ", key),
+        Event::Put { client, key, value } => {
+            of_client(alloc, *client, done_text(alloc, "put ", key, Some(value)))
+        }
+        Event::Del { client, key } => of_client(
+            alloc,
+            *client,
+            done_text(alloc, "del ", key, None),
+        ),
+        Event::Get { client, key } => of_client(
+            alloc,
+            *client,
+            done_text(alloc, "get ", key, None),
+        ),
         Event::Deliver { dc, version } => about(alloc, "deliver ", *dc, *version),
         Event::Ask { dc, version, .. } => about(alloc, "ask ", *dc, *version),
         Event::Mark { dc, version, dep } => mark_text(alloc, *dc, *version, *dep),
@@ -154,10 +150,7 @@ fn event_text(alloc: Global, event: &Event) -> Result<String, Error> {
 }
 
 /// The event at an index of the list.
-fn event(alloc: Global, scenario: &Scenario, words: &[&str]) -> Result<String, Error> {
-    let [index] = words else {
-        return Err(no_row());
-    };
+fn event(alloc: Global, scenario: &Scenario, index: &str) -> Result<String, Error> {
     let Some(events) = scenario.events() else {
         bail!("no list");
     };
@@ -182,29 +175,20 @@ fn line(alloc: Global, number: &str, words: &[&str]) -> Result<String, Error> {
     reported
 }
 
-/// The answer to a call of one word, which no other word may follow.
-fn ask(alloc: Global, scenario: &Scenario, what: &str, rest: &[&str]) -> Result<String, Error> {
-    no_more(rest)?;
-    let number = match what {
-        "format" => u64::from(scenario.format().number()),
-        "retries" => u64::from(scenario.retries()),
-        "repeat" => u64::from(scenario.repeat()),
-        "hold" => u64::from(scenario.hold()),
-        "events" => return events(alloc, scenario),
+/// The answer to a call on the current scenario.
+fn ask_any(alloc: Global, scenario: &Scenario, words: &[&str]) -> Result<String, Error> {
+    let number = match words {
+        ["client", number] => return client(alloc, scenario, number),
+        ["script", number, index] => return script(alloc, scenario, number, index),
+        ["event", index] => return event(alloc, scenario, index),
+        ["events"] => return events(alloc, scenario),
+        ["format"] => u64::from(scenario.format().number()),
+        ["retries"] => u64::from(scenario.retries()),
+        ["repeat"] => u64::from(scenario.repeat()),
+        ["hold"] => u64::from(scenario.hold()),
         _ => return Err(no_row()),
     };
     text(alloc, &[Number(number)])
-}
-
-/// The answer to a call on the current scenario.
-fn ask_any(alloc: Global, scenario: &Scenario, words: &[&str]) -> Result<String, Error> {
-    let (what, rest) = split_call(words)?;
-    match what {
-        "client" => client(alloc, scenario, rest),
-        "script" => script(alloc, scenario, rest),
-        "event" => event(alloc, scenario, rest),
-        what => ask(alloc, scenario, what, rest),
-    }
 }
 
 /// The answer to a call.

@@ -1,10 +1,7 @@
 //! Test cases of a node's settled puts.
 
 use crate::words::Part::{Count, Word};
-use crate::words::{
-    key, no_more, no_row, only_key, pair, split_call, text, value, value_at, version, word,
-    yes_or_no,
-};
+use crate::words::{found_text, key, no_row, pair, text, value, version, word, yes_or_no};
 use anyhow::Error;
 use cops_store::{Settled, Store};
 use cops_types::Dep;
@@ -47,34 +44,27 @@ fn has(alloc: Global, store: &Store, words: &[&str]) -> Result<String, Error> {
     yes_or_no(alloc, has)
 }
 
-fn get(alloc: Global, store: &Store, words: &[&str]) -> Result<String, Error> {
-    let key = only_key(alloc, words)?;
+fn get(alloc: Global, store: &Store, name: &str) -> Result<String, Error> {
+    let key = key(alloc, name)?;
     let reported = match store.get(&key) {
-        Some((value, version)) => value_at(alloc, value, version),
+        Some((value, version)) => found_text(alloc, value, version),
         None => word(alloc, "nothing"),
     };
     drop(key);
     reported
 }
 
-/// The answer to a call of one word, which no other word may follow.
-fn ask(alloc: Global, store: &mut Store, what: &str, rest: &[&str]) -> Result<String, Error> {
-    no_more(rest)?;
-    match what {
-        "new" => drop(std::mem::replace(store, Store::new(alloc))),
-        "counts" => {}
-        _ => return Err(no_row()),
-    }
-    counts(alloc, store)
-}
-
 /// The answer to a call.
 pub fn answer(alloc: Global, store: &mut Store, words: &[&str]) -> Result<String, Error> {
-    let (what, rest) = split_call(words)?;
-    match what {
-        "settle" => settle(alloc, store, rest),
-        "has" => has(alloc, store, rest),
-        "get" => get(alloc, store, rest),
-        what => ask(alloc, store, what, rest),
+    match words {
+        ["new"] => {
+            drop(std::mem::replace(store, Store::new(alloc)));
+            counts(alloc, store)
+        }
+        ["counts"] => counts(alloc, store),
+        ["settle", rest @ ..] => settle(alloc, store, rest),
+        ["has", rest @ ..] => has(alloc, store, rest),
+        ["get", name] => get(alloc, store, name),
+        _ => Err(no_row()),
     }
 }

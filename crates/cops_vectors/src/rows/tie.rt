@@ -1,11 +1,9 @@
 //! Test cases of tying the books of a run to one world.
 
 use crate::rows::book::entries_text;
-use crate::rows::trace::add;
+use crate::rows::trace::add_op;
 use crate::words::Part::{Count, Word};
-use crate::words::{
-    no_more, no_row, node_event, op, outcome, parts, split_call, text, u16_of, u64_of, word,
-};
+use crate::words::{no_row, node_event, outcome, parts, text, u64_of, word};
 use anyhow::{Error, bail};
 use cops_core::Setting;
 use cops_scenario::Scenario;
@@ -74,27 +72,23 @@ fn entry(alloc: Global, ticket: &str, words: &[&str]) -> Result<Entry, Error> {
 }
 
 /// Adds an entry to the book.
-fn enter(alloc: Global, book: &mut Vec<Entry>, words: &[&str]) -> Result<String, Error> {
-    let [ticket, rest @ ..] = words else {
-        return Err(no_row());
-    };
-    book.push(entry(alloc, ticket, rest)?)?;
+fn enter(
+    alloc: Global,
+    book: &mut Vec<Entry>,
+    ticket: &str,
+    words: &[&str],
+) -> Result<String, Error> {
+    book.push(entry(alloc, ticket, words)?)?;
     entries_text(alloc, book.len())
 }
 
-fn record(alloc: Global, trace: &mut Trace, words: &[&str]) -> Result<String, Error> {
-    let [client, rest @ ..] = words else {
-        return Err(no_row());
-    };
-    let client = u16_of(client)?;
-    let op = op(alloc, rest)?;
-    add(trace, client, op)?;
+fn record(alloc: Global, trace: &mut Trace, client: &str, op: &[&str]) -> Result<String, Error> {
+    add_op(alloc, trace, client, op)?;
     text(alloc, &[Count(trace.len()), Word(" records")])
 }
 
 /// The number of events in the book, if it ties.
-fn tied(alloc: Global, run: &TieRun, words: &[&str]) -> Result<String, Error> {
-    no_more(words)?;
+fn tied(alloc: Global, run: &TieRun) -> Result<String, Error> {
     let books = slice::from_ref(&run.book);
     if books.len() != run.setting.dcs() as usize * run.setting.nodes() as usize {
         bail!("there is more than one node");
@@ -107,11 +101,10 @@ fn tied(alloc: Global, run: &TieRun, words: &[&str]) -> Result<String, Error> {
 
 /// The answer to a call on the current run.
 fn ask_any(alloc: Global, run: &mut TieRun, words: &[&str]) -> Result<String, Error> {
-    let (what, rest) = split_call(words)?;
-    match what {
-        "entry" => enter(alloc, &mut run.book, rest),
-        "record" => record(alloc, &mut run.trace, rest),
-        "books" => tied(alloc, run, rest),
+    match words {
+        ["entry", ticket, rest @ ..] => enter(alloc, &mut run.book, ticket, rest),
+        ["record", client, op @ ..] => record(alloc, &mut run.trace, client, op),
+        ["books"] => tied(alloc, run),
         _ => Err(no_row()),
     }
 }

@@ -3,14 +3,13 @@
 use crate::rows::history::op_at;
 use crate::words::Part::{Count, Number, Word};
 use crate::words::{
-    bytes, digits, format_of, line_of, no_more, no_row, op, split_call, text, u16_of, u64_of,
-    usize_of, word, yes_or_no,
+    bytes, digits, format_of, line_of, no_row, op, text, u16_of, u64_of, usize_of, word, yes_or_no,
 };
 use anyhow::{Error, bail};
 use cops_trace::{
     Partial, Trace, TraceFault, WriteFault, fault_line, read_so_far, read_trace, write_trace,
 };
-use cops_types::{Counted, FailingReader, FailingWriter, Op};
+use cops_types::{Counted, FailingReader, FailingWriter};
 use std::alloc::Global;
 
 /// How many clients there are, and how many records.
@@ -29,16 +28,6 @@ fn kept(alloc: Global, trace: &mut Option<Trace>, read: Trace) -> Result<String,
     reported
 }
 
-/// Begins an empty trace with a number of clients, of format 1 or of the format that follows the number.
-fn begin(alloc: Global, trace: &mut Option<Trace>, words: &[&str]) -> Result<String, Error> {
-    let opened = match words {
-        [clients] => Trace::new(alloc, u16_of(clients)?)?,
-        [clients, format] => Trace::new_in(format_of(format)?, alloc, u16_of(clients)?)?,
-        _ => return Err(no_row()),
-    };
-    kept(alloc, trace, opened)
-}
-
 /// The line of a fault, without its line feed.
 fn line(alloc: Global, fault: &TraceFault) -> Result<String, Error> {
     let mut bytes = Vec::new(alloc);
@@ -53,10 +42,12 @@ fn read_pieces(alloc: Global, piece: usize, bytes: &[u8]) -> Result<Trace, Trace
 }
 
 /// Reads the trace in bytes and keeps it, or reports the first fault.
-fn read(alloc: Global, trace: &mut Option<Trace>, words: &[&str]) -> Result<String, Error> {
-    let [piece, word] = words else {
-        return Err(no_row());
-    };
+fn read(
+    alloc: Global,
+    trace: &mut Option<Trace>,
+    piece: &str,
+    word: &str,
+) -> Result<String, Error> {
     let piece = usize_of(piece)?;
     let bytes = bytes(alloc, word)?;
     match read_pieces(alloc, piece, &bytes) {
@@ -89,15 +80,13 @@ fn fault_text(alloc: Global, fault: Option<TraceFault>) -> Result<String, Error>
 }
 
 /// The first fault of bytes that come from a reader which fails after a number of pieces.
-fn failing(alloc: Global, words: &[&str]) -> Result<String, Error> {
-    let [what, reads, piece, word] = words else {
-        return Err(no_row());
-    };
-    let is_trace = match *what {
-        "read" => true,
-        "prefix" => false,
-        _ => return Err(no_row()),
-    };
+fn failing(
+    alloc: Global,
+    is_trace: bool,
+    reads: &str,
+    piece: &str,
+    word: &str,
+) -> Result<String, Error> {
     let reads = u64_of(reads)?;
     let piece = usize_of(piece)?;
     let bytes = bytes(alloc, word)?;
@@ -119,10 +108,7 @@ fn partial_text(alloc: Global, partial: &Partial) -> Result<String, Error> {
 }
 
 /// How many whole records stand before a cut, and where it is.
-fn front(alloc: Global, words: &[&str]) -> Result<String, Error> {
-    let [word] = words else {
-        return Err(no_row());
-    };
+fn front(alloc: Global, word: &str) -> Result<String, Error> {
     let bytes = bytes(alloc, word)?;
     let partial = whole(alloc, &bytes)?;
     let reported = partial_text(alloc, &partial);
@@ -156,10 +142,7 @@ fn short_line<'a>(alloc: Global, fault: &'a str, taken: &'a str) -> Result<Strin
 }
 
 /// The bytes that a device takes which fails after a number of bytes, and the fault then reported.
-fn short(alloc: Global, trace: &Trace, words: &[&str]) -> Result<String, Error> {
-    let [bytes] = words else {
-        return Err(no_row());
-    };
+fn short(alloc: Global, trace: &Trace, bytes: &str) -> Result<String, Error> {
     let (bytes, fault) = cut_short(alloc, trace, u64_of(bytes)?);
     let taken = digits(alloc, &bytes)?;
     let Some(fault) = fault else {
@@ -169,8 +152,10 @@ fn short(alloc: Global, trace: &Trace, words: &[&str]) -> Result<String, Error> 
     short_line(alloc, &reported, &taken)
 }
 
-/// Adds an operation to a trace. Fails if the trace's format does not have the operation.
-pub fn add(trace: &mut Trace, client: u16, op: Op) -> Result<(), Error> {
+/// Adds a client's operation to a trace. Fails if the trace's format does not have the operation.
+pub fn add_op(alloc: Global, trace: &mut Trace, client: &str, words: &[&str]) -> Result<(), Error> {
+    let client = u16_of(client)?;
+    let op = op(alloc, words)?;
     if !op.in_format(trace.format()) {
         drop(op);
         bail!("the format has no such operation");
@@ -178,54 +163,44 @@ pub fn add(trace: &mut Trace, client: u16, op: Op) -> Result<(), Error> {
     Ok(trace.push(client, op)?)
 }
 
-fn push(alloc: Global, trace: &mut Trace, words: &[&str]) -> Result<String, Error> {
-    let [client, rest @ ..] = words else {
-        return Err(no_row());
-    };
-    let client = u16_of(client)?;
-    let op = op(alloc, rest)?;
-    add(trace, client, op)?;
-    counts(alloc, trace)
-}
-
-/// The answer to a call of one word, which no other word may follow.
-fn ask(alloc: Global, trace: &Trace, what: &str, rest: &[&str]) -> Result<String, Error> {
-    no_more(rest)?;
-    match what {
-        "counts" => counts(alloc, trace),
-        "format" => text(alloc, &[Number(u64::from(trace.format().number()))]),
-        "empty" => yes_or_no(alloc, trace.is_empty()),
-        "write" => write(alloc, trace),
+/// The answer to a call on the current trace.
+fn ask(alloc: Global, trace: &mut Trace, words: &[&str]) -> Result<String, Error> {
+    match words {
+        ["push", client, op @ ..] => {
+            add_op(alloc, trace, client, op)?;
+            counts(alloc, trace)
+        }
+        ["short", bytes] => short(alloc, trace, bytes),
+        ["op", client, index] => op_at(alloc, trace.history(), client, index),
+        ["counts"] => counts(alloc, trace),
+        ["format"] => text(alloc, &[Number(u64::from(trace.format().number()))]),
+        ["empty"] => yes_or_no(alloc, trace.is_empty()),
+        ["write"] => write(alloc, trace),
         _ => Err(no_row()),
     }
 }
 
-/// The answer to a call on the current trace.
-fn ask_any(
-    alloc: Global,
-    trace: &mut Option<Trace>,
-    what: &str,
-    rest: &[&str],
-) -> Result<String, Error> {
-    let Some(trace) = trace else {
-        bail!("there is no trace");
-    };
-    match what {
-        "push" => push(alloc, trace, rest),
-        "short" => short(alloc, trace, rest),
-        "op" => op_at(alloc, trace.history(), rest),
-        what => ask(alloc, trace, what, rest),
+/// The answer to a call on the current trace, or the error that there is none.
+fn ask_any(alloc: Global, trace: &mut Option<Trace>, words: &[&str]) -> Result<String, Error> {
+    match trace {
+        Some(trace) => ask(alloc, trace, words),
+        None => bail!("there is no trace"),
     }
 }
 
 /// The answer to a call.
 pub fn answer(alloc: Global, trace: &mut Option<Trace>, words: &[&str]) -> Result<String, Error> {
-    let (what, rest) = split_call(words)?;
-    match what {
-        "new" => begin(alloc, trace, rest),
-        "read" => read(alloc, trace, rest),
-        "prefix" => front(alloc, rest),
-        "failing" => failing(alloc, rest),
-        what => ask_any(alloc, trace, what, rest),
+    match words {
+        ["new", clients] => kept(alloc, trace, Trace::new(alloc, u16_of(clients)?)?),
+        ["new", clients, format] => {
+            let opened = Trace::new_in(format_of(format)?, alloc, u16_of(clients)?)?;
+            kept(alloc, trace, opened)
+        }
+        ["read", piece, word] => read(alloc, trace, piece, word),
+        ["prefix", word] => front(alloc, word),
+        ["failing", "read", reads, piece, word] => failing(alloc, true, reads, piece, word),
+        ["failing", "prefix", reads, piece, word] => failing(alloc, false, reads, piece, word),
+        [] | ["new" | "read" | "prefix" | "failing", ..] => Err(no_row()),
+        _ => ask_any(alloc, trace, words),
     }
 }

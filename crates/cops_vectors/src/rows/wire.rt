@@ -2,8 +2,7 @@
 
 use crate::words::Part::{Count, Number, Word};
 use crate::words::{
-    bytes, digits, format_of, lossy, no_more, no_row, split_call, text, u8_of, u32_of, u64_of,
-    word, yes_or_no,
+    bytes, digits, format_of, lossy, no_row, text, u8_of, u32_of, u64_of, word, yes_or_no,
 };
 use anyhow::{Error, bail};
 use cops_types::Format;
@@ -106,10 +105,7 @@ fn feed_byte(
 
 /// Feeds bytes one by one, and returns the line of each frame that they complete, after the number of bytes fed by
 /// then.
-fn feed(alloc: Global, feeder: &mut Feeder, words: &[&str]) -> Result<String, Error> {
-    let [word] = words else {
-        return Err(no_row());
-    };
+fn feed(alloc: Global, feeder: &mut Feeder, word: &str) -> Result<String, Error> {
     let bytes = bytes(alloc, word)?;
     let mut lines = String::new(alloc);
     let mut count = 0u64;
@@ -135,10 +131,7 @@ fn feed_piece(feeder: &mut Feeder, piece: &[u8]) -> Result<bool, Error> {
 
 /// Feeds `count` pieces of a thousand equal bytes, and counts the pieces that leave an incomplete frame and those that
 /// leave a faulty one.
-fn flood(alloc: Global, feeder: &mut Feeder, words: &[&str]) -> Result<String, Error> {
-    let [count, byte] = words else {
-        return Err(no_row());
-    };
+fn flood(alloc: Global, feeder: &mut Feeder, count: &str, byte: &str) -> Result<String, Error> {
     let piece = [u8_of(byte)?; 1000];
     let (mut waiting, mut faulty) = (0u64, 0u64);
     for _ in 0..u32_of(count)? {
@@ -192,10 +185,7 @@ fn message(words: &[&str]) -> Result<Message, Error> {
 }
 
 /// Whether the message of format 2 at the front is legal in a format.
-fn is_in_format(alloc: Global, words: &[&str]) -> Result<String, Error> {
-    let [format, word] = words else {
-        return Err(no_row());
-    };
+fn is_in_format(alloc: Global, format: &str, word: &str) -> Result<String, Error> {
     let format = format_of(format)?;
     let front = prefix_in(alloc, Format::Two, word)?;
     let is = legal_in(format, &front.message);
@@ -210,35 +200,24 @@ fn is_legal(alloc: Global, words: &[&str]) -> Result<String, Error> {
     yes_or_no(alloc, is)
 }
 
-/// Sets the format of what the feeder is fed next.
-fn set_format(alloc: Global, feeder: &mut Feeder, words: &[&str]) -> Result<String, Error> {
-    let [format] = words else {
-        return Err(no_row());
-    };
-    feeder.set_format(format_of(format)?);
-    word(alloc, "set")
-}
-
-/// Replaces the feeder by a new one.
-fn begin(alloc: Global, feeder: &mut Feeder, words: &[&str]) -> Result<String, Error> {
-    no_more(words)?;
-    drop(std::mem::replace(feeder, Feeder::new(alloc)));
-    word(alloc, "opened")
-}
-
 /// The answer to a call.
 pub fn answer(alloc: Global, feeder: &mut Feeder, words: &[&str]) -> Result<String, Error> {
-    let (what, rest) = split_call(words)?;
-    match what {
-        "new" => begin(alloc, feeder, rest),
-        "feed" => feed(alloc, feeder, rest),
-        "format" => set_format(alloc, feeder, rest),
-        "flood" => flood(alloc, feeder, rest),
-        "show" => show_frame(alloc, rest),
-        "decode" => measures(alloc, rest),
-        "encode" => encoded_message(alloc, rest),
-        "legal" => is_legal(alloc, rest),
-        "in" => is_in_format(alloc, rest),
+    match words {
+        ["new"] => {
+            drop(std::mem::replace(feeder, Feeder::new(alloc)));
+            word(alloc, "opened")
+        }
+        ["format", format] => {
+            feeder.set_format(format_of(format)?);
+            word(alloc, "set")
+        }
+        ["feed", word] => feed(alloc, feeder, word),
+        ["flood", count, byte] => flood(alloc, feeder, count, byte),
+        ["show", rest @ ..] => show_frame(alloc, rest),
+        ["decode", rest @ ..] => measures(alloc, rest),
+        ["encode", rest @ ..] => encoded_message(alloc, rest),
+        ["legal", rest @ ..] => is_legal(alloc, rest),
+        ["in", format, word] => is_in_format(alloc, format, word),
         _ => Err(no_row()),
     }
 }

@@ -3,8 +3,8 @@
 use crate::rows::place;
 use crate::words::Part::{Count, Word};
 use crate::words::{
-    add_behind, format_of, no_more, no_row, outcome_text, parts, reported_outcome, session_text,
-    split_call, text, u8_of, u32_of, world_event,
+    add_behind, format_of, outcome_text, parts, reported_outcome, session_text, text, u8_of,
+    u32_of, world_event,
 };
 use anyhow::{Error, bail};
 use cops_core::{Event, World};
@@ -69,12 +69,9 @@ fn last(world: &mut World, count: u32, event: &Event) -> Outcome {
 }
 
 /// Applies one event a number of times, and returns the words of the last outcome.
-fn again(alloc: Global, world: &mut World, words: &[&str]) -> Result<String, Error> {
-    let [count, rest @ ..] = words else {
-        return Err(no_row());
-    };
+fn again(alloc: Global, world: &mut World, count: &str, event: &[&str]) -> Result<String, Error> {
     let count = u32_of(count)?;
-    let event = world_event(alloc, rest)?;
+    let event = world_event(alloc, event)?;
     let last = last(world, count, &event);
     drop(event);
     reported_outcome(alloc, last)
@@ -110,20 +107,13 @@ fn run(alloc: Global, world: &mut World, words: &[&str]) -> Result<String, Error
     reported
 }
 
-/// How many operations the clients saw.
-fn count(alloc: Global, world: &World, words: &[&str]) -> Result<String, Error> {
-    no_more(words)?;
-    text(alloc, &[Count(world.history().len()), Word(" operations")])
-}
-
 /// The answer to a call on the current world.
 fn ask_any(alloc: Global, world: &mut World, words: &[&str]) -> Result<String, Error> {
-    let (what, rest) = split_call(words)?;
-    match what {
-        "counts" => count(alloc, world, rest),
-        "session" => session_text(alloc, world.history(), rest),
-        "again" => again(alloc, world, rest),
-        "run" => run(alloc, world, rest),
+    match words {
+        ["counts"] => text(alloc, &[Count(world.history().len()), Word(" operations")]),
+        ["session", client] => session_text(alloc, world.history(), client),
+        ["again", count, event @ ..] => again(alloc, world, count, event),
+        ["run", events @ ..] => run(alloc, world, events),
         _ => apply(alloc, world, words),
     }
 }

@@ -1,6 +1,6 @@
 //! The words that describe a node's outcome.
 
-use crate::words::reading::{no_more, no_row, only_version, split_call, u8_of, value, version};
+use crate::words::reading::{no_row, u8_of, value, version};
 use crate::words::texts::Part::{At, Bytes, Number, Word};
 use crate::words::texts::{text, word};
 use anyhow::Error;
@@ -55,67 +55,36 @@ pub fn reported_outcome(alloc: Global, outcome: Outcome) -> Result<String, Error
     reported
 }
 
-fn done(words: &[&str]) -> Result<Outcome, Error> {
-    let version = only_version(words)?;
-    Ok(Outcome::PutDone(version))
-}
-
-fn deleted(words: &[&str]) -> Result<Outcome, Error> {
-    let version = only_version(words)?;
-    Ok(Outcome::Deleted(version))
-}
-
-fn gone(words: &[&str]) -> Result<Outcome, Error> {
-    let version = only_version(words)?;
-    Ok(Outcome::Gone(version))
-}
-
-fn found(alloc: Global, words: &[&str]) -> Result<Outcome, Error> {
-    let [bytes, "at", at] = words else {
-        return Err(no_row());
-    };
-    let version = version(at)?;
-    let value = value(alloc, bytes)?;
-    Ok(Outcome::Got(value, version))
-}
-
-fn refused(words: &[&str]) -> Result<Outcome, Error> {
-    let [code] = words else {
-        return Err(no_row());
-    };
+/// The refusal of a code.
+fn refusal(code: &str) -> Result<Refusal, Error> {
     let code = u8_of(code)?;
     for refusal in REFUSALS {
         if refusal.code() == code {
-            return Ok(Outcome::Refused(refusal));
+            return Ok(refusal);
         }
     }
     Err(no_row())
 }
 
-/// The outcome of one word, which no other word may follow.
-fn plain(word: &str, rest: &[&str]) -> Result<Outcome, Error> {
-    no_more(rest)?;
-    match word {
-        "missed" => Ok(Outcome::Missed),
-        "held" => Ok(Outcome::Held),
-        "repeat" => Ok(Outcome::Repeat),
-        "yes" => Ok(Outcome::Yes),
-        "wait" => Ok(Outcome::Wait),
-        "marked" => Ok(Outcome::Marked),
-        "settled" => Ok(Outcome::Settled),
-        _ => Err(no_row()),
-    }
-}
-
 /// The outcome that words describe.
 pub fn outcome(alloc: Global, words: &[&str]) -> Result<Outcome, Error> {
-    let (what, rest) = split_call(words)?;
-    match what {
-        "done" => done(rest),
-        "deleted" => deleted(rest),
-        "got" => found(alloc, rest),
-        "gone" => gone(rest),
-        "refused" => refused(rest),
-        word => plain(word, rest),
+    match words {
+        ["done", at] => Ok(Outcome::PutDone(version(at)?)),
+        ["deleted", at] => Ok(Outcome::Deleted(version(at)?)),
+        ["got", bytes, "at", at] => {
+            let version = version(at)?;
+            let value = value(alloc, bytes)?;
+            Ok(Outcome::Got(value, version))
+        }
+        ["gone", at] => Ok(Outcome::Gone(version(at)?)),
+        ["refused", code] => Ok(Outcome::Refused(refusal(code)?)),
+        ["missed"] => Ok(Outcome::Missed),
+        ["held"] => Ok(Outcome::Held),
+        ["repeat"] => Ok(Outcome::Repeat),
+        ["yes"] => Ok(Outcome::Yes),
+        ["wait"] => Ok(Outcome::Wait),
+        ["marked"] => Ok(Outcome::Marked),
+        ["settled"] => Ok(Outcome::Settled),
+        _ => Err(no_row()),
     }
 }

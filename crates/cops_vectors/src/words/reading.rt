@@ -1,34 +1,15 @@
 //! What words stand for: numbers, keys, values, versions, dependencies, operations.
 
-use anyhow::{Error, anyhow};
-use cops_types::{Dep, Deps, Format, Key, Op, PutRecord, Value, Version};
+ghost use Rattle.std.specs.Prelude.{◌<◌, IfOk};
+ghost use Rattle.cops_types.specs.declared.limits.TheConstants.{NODES};
+
+use anyhow::{Error, anyhow, bail};
+use cops_types::{Dep, Deps, Format, Key, NODES, Op, PutRecord, Value, Version};
 use std::alloc::Global;
 
 /// The error for words that are not a test case.
 pub fn no_row() -> Error {
     anyhow!("not a row")
-}
-
-/// The first word of a call, and the words behind it.
-pub fn split_call<'a>(words: &'a [&'a str]) -> Result<(&'a str, &'a [&'a str]), Error> {
-    match words {
-        [what, rest @ ..] => Ok((*what, rest)),
-        [] => Err(no_row()),
-    }
-}
-
-/// Fails if there is a word.
-pub fn no_more(words: &[&str]) -> Result<(), Error> {
-    if words.is_empty() {
-        Ok(())
-    } else {
-        Err(no_row())
-    }
-}
-
-/// The error for a node's number that is too great.
-pub fn no_node() -> Error {
-    anyhow!("there is no such node")
 }
 
 /// The number below 2 ^ 8 of these digits.
@@ -39,6 +20,17 @@ pub fn u8_of(word: &str) -> Result<u8, Error> {
 /// The number below 2 ^ 16 of these digits.
 pub fn u16_of(word: &str) -> Result<u16, Error> {
     Ok(word.parse::<u16>()?)
+}
+
+/// The number of a node, of these digits.
+pub fn node_of(word: &str) -> Result<u16, Error>
+    ensures { IfOk result (λ node. node < NODES) }
+{
+    let node = u16_of(word)?;
+    if node >= NODES {
+        bail!("there is no such node");
+    }
+    Ok(node)
 }
 
 /// The number below 2 ^ 32 of these digits.
@@ -86,22 +78,6 @@ pub fn version(word: &str) -> Result<Version, Error> {
     match word.split_once('.') {
         Some((clock, node)) => version_of(clock, node),
         None => Err(no_row()),
-    }
-}
-
-/// The key of one word.
-pub fn only_key(alloc: Global, words: &[&str]) -> Result<Key, Error> {
-    match words {
-        [name] => key(alloc, name),
-        _ => Err(no_row()),
-    }
-}
-
-/// The version of one word.
-pub fn only_version(words: &[&str]) -> Result<Version, Error> {
-    match words {
-        [at] => version(at),
-        _ => Err(no_row()),
     }
 }
 
@@ -229,14 +205,13 @@ fn valueless_op(alloc: Global, is_deletion: bool, words: &[&str]) -> Result<Op, 
 /// An operation of a client: `put KEY VALUE VERSION`, `del KEY VERSION`, `got KEY VALUE VERSION`, `gone KEY VERSION` or
 /// `missed KEY`.
 pub fn op(alloc: Global, words: &[&str]) -> Result<Op, Error> {
-    let (what, rest) = split_call(words)?;
-    match what {
-        "put" => valued_op(alloc, true, rest),
-        "got" => valued_op(alloc, false, rest),
-        "del" => valueless_op(alloc, true, rest),
-        "gone" => valueless_op(alloc, false, rest),
-        "missed" => Ok(Op::Missed {
-            key: only_key(alloc, rest)?,
+    match words {
+        ["put", rest @ ..] => valued_op(alloc, true, rest),
+        ["got", rest @ ..] => valued_op(alloc, false, rest),
+        ["del", rest @ ..] => valueless_op(alloc, true, rest),
+        ["gone", rest @ ..] => valueless_op(alloc, false, rest),
+        ["missed", name] => Ok(Op::Missed {
+            key: key(alloc, name)?,
         }),
         _ => Err(no_row()),
     }

@@ -1,6 +1,6 @@
 //! The words that describe pairs, values, operations and sessions.
 
-use crate::words::reading::{no_row, u16_of};
+use crate::words::reading::u16_of;
 use crate::words::texts::Part::{At, Bytes, Count, Word};
 use crate::words::texts::{text, word};
 use anyhow::Error;
@@ -13,8 +13,8 @@ pub fn yes_or_no(alloc: Global, is: bool) -> Result<String, Error> {
     word(alloc, answer)
 }
 
-/// `VALUE at VERSION`, or `deleted at VERSION`.
-pub fn value_at(alloc: Global, value: Option<&Value>, version: Version) -> Result<String, Error> {
+/// What was found for a key: `VALUE at VERSION` or `deleted at VERSION`.
+pub fn found_text(alloc: Global, value: Option<&Value>, version: Version) -> Result<String, Error> {
     let value = match value {
         Some(value) => Bytes(value.as_bytes()),
         None => Word("deleted"),
@@ -30,71 +30,46 @@ pub fn pair_text(alloc: Global, pair: &Dep) -> Result<String, Error> {
     )
 }
 
-/// An operation with a value: `KEY=VALUE at VERSION`.
+/// An operation on a key, with the version of its value or of its deletion.
 fn done_text<'a>(
     alloc: Global,
-    done: &'a str,
+    done: (&'a str, &'a str),
     key: &'a Key,
-    value: &'a Value,
+    value: Option<&'a Value>,
     version: Version,
 ) -> Result<String, Error> {
-    let (key, value) = (key.as_bytes(), value.as_bytes());
-    text(
-        alloc,
-        &[
-            Word(done),
-            Bytes(key),
-            Word("="),
-            Bytes(value),
-            Word(" at "),
-            At(version),
-        ],
-    )
+    let (key, at) = (Bytes(key.as_bytes()), At(version));
+    match value {
+        Some(value) => {
+            let value = Bytes(value.as_bytes());
+            text(
+                alloc,
+                &[Word(done.0), key, Word("="), value, Word(" at "), at],
+            )
+        }
+        None => text(alloc, &[Word(done.1), key, Word(" at "), at]),
+    }
 }
 
-/// An operation without a value: `KEY at VERSION`.
-fn bare_text<'a>(
-    alloc: Global,
-    done: &'a str,
-    key: &'a Key,
-    version: Version,
-) -> Result<String, Error> {
-    let key = Bytes(key.as_bytes());
-    text(alloc, &[Word(done), key, Word(" at "), At(version)])
-}
-
-/// The text of a client's operation.
+/// The text of a client's operation: `KEY=VALUE at VERSION` after what it did, and without a value `KEY at VERSION`.
 pub fn op_text(alloc: Global, op: &OpRef<'_>) -> Result<String, Error> {
     match op {
         OpRef::Put {
             key,
-            value: Some(value),
+            value,
             version,
-        } => done_text(alloc, "put ", key, value, **version),
-        OpRef::Put {
-            key,
-            value: None,
-            version,
-        } => bare_text(alloc, "del ", key, **version),
+        } => done_text(alloc, ("put ", "del "), key, *value, **version),
         OpRef::Got {
             key,
-            value: Some(value),
+            value,
             version,
-        } => done_text(alloc, "got ", key, value, **version),
-        OpRef::Got {
-            key,
-            value: None,
-            version,
-        } => bare_text(alloc, "gone ", key, **version),
+        } => done_text(alloc, ("got ", "gone "), key, *value, **version),
         OpRef::Missed { key } => text(alloc, &[Word("missed "), Bytes(key.as_bytes())]),
     }
 }
 
-/// How many operations the client of one word has.
-pub fn session_text(alloc: Global, history: &History, words: &[&str]) -> Result<String, Error> {
-    let [client] = words else {
-        return Err(no_row());
-    };
+/// How many operations a client has.
+pub fn session_text(alloc: Global, history: &History, client: &str) -> Result<String, Error> {
     let operations = history.session_len(u16_of(client)?);
     text(alloc, &[Count(operations), Word(" operations")])
 }

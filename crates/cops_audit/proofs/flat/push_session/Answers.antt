@@ -1,7 +1,7 @@
 use Rattle.std.proofs.Common.{ℕ, max, ◌+◌, ◌∷◌, ◌++◌, [], List, length, append-nil, append_assoc, length-append, slice_index_or, sym, ap, ◌∙◌, arith}
 use Rattle.cops_audit.specs.declared.summaries.Summary.{Summary}
 use Rattle.cops_audit.proofs.Listing.{slice_get_there}
-use Rattle.cops_audit.proofs.Noting.{Summarized, few_places, no_summaries, raised_summary}
+use Rattle.cops_audit.proofs.Summarizing.{Summarized, few_places, no_summaries, raised_summary}
 use Rattle.cops_audit.proofs.flat.push_session.Goals as goal
 
 pub of-op_version-requires : goal.of-op_version-requires

@@ -1,7 +1,7 @@
 use Rattle.std.proofs.Common.{◌≡◌, ◌≤◌, ◌++◌, List, [], length, slice_index_or}
 use Rattle.std.specs.Prelude.{vec_capacity}
 use Rattle.cops_audit.specs.declared.summaries.Summary.{Summary}
-use Rattle.cops_audit.proofs.Noting.{Summarized}
+use Rattle.cops_audit.proofs.Summarizing.{Summarized}
 use Rattle.cops_audit.proofs.flat.push_session.Given as goal
 
 abbrev pub invariant-loop-index : goal.invariant-loop-index

@@ -1,6 +1,6 @@
 use Rattle.std.proofs.Common.{◌/◌, IfOk, length, refl, subst}
 use Rattle.cops_audit.specs.Summaries.{AreSummarized}
-use Rattle.cops_audit.proofs.Noting.{summarized_all}
+use Rattle.cops_audit.proofs.Summarizing.{summarized_all}
 use Rattle.cops_audit.proofs.parallel.summaries_in_halves.Goals as goal
 
 pub returns : goal.returns

@@ -21,8 +21,8 @@ loop-number-preserved c =
 pub returns : goal.returns
 returns c =
     let places = c.loop-number.places.items in
-    let whole : length places ≡ length c.args.history.now.gets = omega (arith, c.loop-number.invariant.count, c.loop-number.auto.number-end, c.loop-number-test.false, c.open_gets-count.ensures.count) in
+    let whole : length places ≡ length c.args.history.now.gets = omega (arith, c.loop-number.invariant.count, c.loop-number.auto.number-end, c.loop-number-test.false, c.pending_reads-count.ensures.count) in
     record {
       places = c.loop-number.invariant.places;
-      all = λ are. all_sourced c.args.history.now c.args.table.now places c.loop-number.invariant.places whole c.open_gets-count.ensures.others;
+      all = λ are. all_sourced c.args.history.now c.args.table.now places c.loop-number.invariant.places whole c.pending_reads-count.ensures.others;
     }

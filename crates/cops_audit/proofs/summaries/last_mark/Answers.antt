@@ -1,6 +1,6 @@
 use Rattle.std.proofs.Common.{◌≡◌, length, arith, sym, ◌∙◌}
 use Rattle.std.proofs.lemmas.Bool.{eqb-true, eq-eqb}
-use Rattle.cops_audit.proofs.Noting.{mark_of_last, mark_of_none}
+use Rattle.cops_audit.proofs.Summarizing.{mark_of_last, mark_of_none}
 use Rattle.cops_audit.proofs.summaries.last_mark.Goals as goal
 
 pub returns-then-is_empty : goal.returns-then-is_empty

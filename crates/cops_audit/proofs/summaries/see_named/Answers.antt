@@ -27,5 +27,5 @@ returns-in-Some-put_number c =
 
 pub returns : goal.returns
 returns c =
-    let at = c.in_ok-number.ensures.open in
+    let at = c.in_ok-number.ensures.pending in
     source_seen c.args.history.now.sessions c.args.table.now c.args.name at.0 c.in_ok-place-3.place (c.requires.sources c.in_ok-number.number c.in_ok-place-3.place at.0 at.1 (sym c.in_ok-place-3.ensures)) at.2

@@ -1,7 +1,7 @@
 use Rattle.std.proofs.Common.{◌≡◌, ◌∙◌, ℕ, [], ap, length, max, slice_index_or, arith, subst, sym}
 use Rattle.cops_audit.specs.Summaries.{AreMarks, IsMark}
 use Rattle.cops_audit.proofs.Listing.{slice_get_there}
-use Rattle.cops_audit.proofs.Noting.{few_places, prefix_summarized, raised_summary}
+use Rattle.cops_audit.proofs.Summarizing.{few_places, prefix_summarized, raised_summary}
 use Rattle.cops_audit.proofs.summaries.summary_on.Goals as goal
 
 pub see_placed-seen-requires-clause-named : goal.see_placed-seen-requires-clause-named
@@ -16,8 +16,8 @@ loop-index-init c =
     let summaries = c.args.summaries.now.items in
     let len : length summaries ≡ c.len-index.result = omega (arith, c.len-index.ensures, c.args.summaries.now.ok.0) in
     let up_to : IsMark summaries (length summaries) c.last_mark-mark.result
-    = subst (λ ns. IsMark ns (length ns) c.last_mark-mark.result) c.as_slice.ensures.value (c.last_mark-mark.ensures (subst AreMarks (sym c.as_slice.ensures.value) c.requires.front.marks)) in
-    record { summarized = prefix_summarized h c.args.table.now c.args.client summaries c.len-index.result c.last_mark-mark.result c.requires.front len up_to; within = omega (arith, c.requires.front.within, len) }
+    = subst (λ ns. IsMark ns (length ns) c.last_mark-mark.result) c.as_slice.ensures.value (c.last_mark-mark.ensures (subst AreMarks (sym c.as_slice.ensures.value) c.requires.prefix.marks)) in
+    record { summarized = prefix_summarized h c.args.table.now c.args.client summaries c.len-index.result c.last_mark-mark.result c.requires.prefix len up_to; within = omega (arith, c.requires.prefix.within, len) }
 
 pub loop-index-preserved : goal.loop-index-preserved
 loop-index-preserved c =
@@ -29,8 +29,8 @@ loop-index-preserved c =
       within = omega (arith, c.session_len-index-end.ensures.count, c.loop-index-test.true);
     }
 
-pub returns-clause-front : goal.returns-clause-front
-returns-clause-front c = record { within = omega (arith, c.loop-index.invariant.within, c.loop-index.invariant.summarized.whole); seen = c.loop-index.invariant.summarized.seen; marks = c.loop-index.invariant.summarized.marks }
+pub returns-clause-prefix : goal.returns-clause-prefix
+returns-clause-prefix c = record { within = omega (arith, c.loop-index.invariant.within, c.loop-index.invariant.summarized.whole); seen = c.loop-index.invariant.summarized.seen; marks = c.loop-index.invariant.summarized.marks }
 
 pub returns-clause-whole : goal.returns-clause-whole
 returns-clause-whole c = λ le. omega (arith, le, c.session_len-index-end.ensures.count, c.loop-index-test.false, c.loop-index.invariant.summarized.whole, c.loop-index.summaries.ok.0)

@@ -1,5 +1,5 @@
 use Rattle.std.proofs.Common.{◌≤◌, [], length, slice_index_or}
-use Rattle.cops_audit.proofs.Noting.{Summarized}
+use Rattle.cops_audit.proofs.Summarizing.{Summarized}
 use Rattle.cops_audit.proofs.summaries.summary_on.Given as goal
 
 abbrev pub invariant-loop-index : goal.invariant-loop-index

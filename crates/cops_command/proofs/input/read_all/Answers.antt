@@ -1,19 +1,9 @@
 use Rattle.std.proofs.Common.{◌≡◌, ◌++◌, [], List, ℕ, length, length-append, Option, None, Some, IfSome, refl, sym, ap, subst, ◌∙◌, arith}
-use Rattle.std.proofs.lemmas.List.{append_assoc, append-nil}
+use Rattle.std.proofs.lemmas.List.{append-nil}
 use Rattle.std.specs.Io.KnownBytes.{Consumes, IsAtEnd}
 use Rattle.cops_types.specs.Counted.{inner}
+use Rattle.cops_types.proofs.Devices.{consumed, consumed_none}
 use Rattle.cops_command.proofs.input.read_all.Goals as goal
-
--- bytes that were read, and then more
-consumed : (a b c : Option (List ℕ)) (xs ys : List ℕ) → Consumes a b xs → Consumes b c ys → Consumes a c (xs ++ ys)
-consumed None b c xs ys p q = tt
-consumed (Some u) None c xs ys p q = absurd p
-consumed (Some u) (Some v) None xs ys p q = absurd q
-consumed (Some u) (Some v) (Some w) xs ys p q = p ∙ ap (λ (t : List ℕ). xs ++ t) q ∙ sym (append_assoc xs ys w)
-
-consumed_none : (a : Option (List ℕ)) → Consumes a a []
-consumed_none None = tt
-consumed_none (Some u) = refl
 
 -- what was read before the end is all there was
 all_read : (a b c : Option (List ℕ)) (xs : List ℕ) → Consumes a b xs → Consumes b c [] → IsAtEnd c → IfSome a (λ all. xs ≡ all)

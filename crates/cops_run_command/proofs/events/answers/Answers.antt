@@ -1,10 +1,11 @@
 use Rattle.std.proofs.Common.{ap, ◌∙◌}
-use Rattle.cops_core.specs.Opened.{AWorld, opened_world}
-use Rattle.cops_run_command.proofs.Left.{answered_if}
+use Rattle.cops_scenario.specs.Scenario.{setting_of}
+use Rattle.cops_core.specs.Opened.{opened_world}
+use Rattle.cops_run_command.proofs.Left.{answered}
 use Rattle.cops_run_command.proofs.events.answers.Goals as goal
 
 pub returns : goal.returns
 returns c =
-    answered_if c.args.scenario.now c.in_ok-world.world c.world.inside.setting c.args.events.now c.run.result c.run.new.self.world
-    c.every_interleaving_is_accepted.ensures.accepted (c.in_ok-world.ensures ∙ ap opened_world c.in_ok-setting.ensures) (ap (λ (k : AWorld). k.setting) c.world.view_is ∙ c.run.ensures.setting)
-    c.world.invariant.setting c.run.ensures.memory
+    answered (setting_of c.args.scenario.now) c.in_ok-world.world c.run.new.self c.args.events.now c.in_ok-outcomes.outcomes.items c.into_history.result.sessions
+    (c.in_ok-world.ensures ∙ ap opened_world c.in_ok-setting.ensures) c.run.ensures.setting c.in_ok-outcomes.ensures.memory c.into_history.ensures.sessions
+    c.into_history.ensures.accepted c.into_history.ensures.in_format

@@ -19,8 +19,8 @@ send-requires g c =
     (c.deref.ensures.value ∙ c.in-Ok.ensures.end.0) in
     omega (arith, sent_few _ _ t (text t) c.extend_from_slice.new.self.items [] c.in_ok-written.written c.len-records.ensures.trace (sym (append-nil (text t))) sent)
 
-pub returns-clause-front : goal.returns-clause-front
-returns-clause-front g c = λ n e.
+pub returns-clause-cut : goal.returns-clause-cut
+returns-clause-cut g c = λ n e.
     let t = c.args.trace.now in
     let left = c.write_records.new.left in
     let room : vec_len left + length c.deref.result.now ≤ vec_capacity left =

@@ -1,6 +1,6 @@
 use Rattle.std.proofs.Common.{◌≡◌, ◌<◌, ◌+◌, ◌-◌, ◌∙◌, length, ap, arith, slice_set}
 use Rattle.std.specs.Prelude.{vec_len}
-use Rattle.cops_audit.specs.Tallies.{numbers_in}
+use Rattle.cops_audit.specs.EpochNumbers.{numbers_in}
 use Rattle.cops_audit.proofs.EpochsLemmas.{count_numbers, filled, set_number}
 use Rattle.cops_audit.proofs.epochs.Epochs.set.Goals as goal
 use Rattle.cops_audit.proofs.epochs.Epochs.set.Goals.{then-len-place, else-len-place}

@@ -2,7 +2,7 @@ use Rattle.std.proofs.Common.{◌∙◌, subst, sym, ap, map, Vec, Global}
 use Rattle.std.proofs.lemmas.List.{map-append}
 use Rattle.cops_audit.specs.declared.summaries.Summary.{Summary}
 use Rattle.cops_audit.specs.Summaries.{AreSummarized}
-use Rattle.cops_audit.proofs.Noting.{summarized_joined}
+use Rattle.cops_audit.proofs.Summarizing.{summarized_joined}
 use Rattle.cops_audit.proofs.summaries.SessionSummaries.joined.Goals as goal
 
 pub returns : goal.returns

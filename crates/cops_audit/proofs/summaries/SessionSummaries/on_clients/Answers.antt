@@ -1,6 +1,6 @@
 use Rattle.std.proofs.Common.{◌≡◌, ◌+◌, length, arith, Vec, Global}
 use Rattle.cops_audit.specs.declared.summaries.Summary.{Summary}
-use Rattle.cops_audit.proofs.Noting.{prefixes_of_none, summarized_all, summarized_whole}
+use Rattle.cops_audit.proofs.Summarizing.{prefixes_of_none, summarized_all, summarized_whole}
 use Rattle.cops_audit.proofs.summaries.SessionSummaries.on_clients.Goals as goal
 
 pub loop-round-init : goal.loop-round-init

@@ -1,5 +1,4 @@
 use Rattle.std.proofs.Common.{◌≡◌, ◌∙◌, ℕ, ap, ap₂, sym}
-use Rattle.cops_node.specs.declared.event.NodeEvent.{NodeEvent}
 use Rattle.cops_node.specs.declared.event.NodeEvent.TheVariants.{Get}
 use Rattle.cops_types.specs.NodeNumber.{node_number}
 use Rattle.cops_cluster.specs.declared.share.Share.{Share}

@@ -11,10 +11,6 @@ pub drafted-requires : goal.drafted-requires
 drafted-requires c =
     client_there (entered c.primary-place.ensures.setting c.self.view_is c.requires (admitted c.in_default.ensures.same c.in_default.ensures.ok))
 
-pub copies_of-requires : goal.copies_of-requires
-copies_of-requires c =
-    client_there (entered c.primary-place.ensures.setting c.self.view_is c.requires (admitted c.in_default.ensures.same c.in_default.ensures.ok))
-
 pub home-requires : goal.home-requires
 home-requires c =
     client_home (entered c.primary-place.ensures.setting c.self.view_is c.requires (admitted c.in_default.ensures.same c.in_default.ensures.ok))
@@ -49,7 +45,7 @@ returns-in-Some c =
     let n = c.write_at-outcome.new.node in
     let made = with_parts w c.home.result c.primary-place.result n in
     let version = c.in-Some.version in
-    let kept = c.in_ok-copies.ensures in
+    let kept = c.in_ok-copies.ensures ∙ (λ i. let own = c.in_ok-own.ensures i in record { issued = own; pair_key = own.key; op_key = own.key; op_value = own.value }) in
     let issued = c.keep_put.ensures.issued ∙ (λ i. c.reserve.ensures.same i ++ record { key = (kept i).issued.key; value = (kept i).issued.value; version = version; deps = (kept i).issued.deps } ∷ []) in
     let contexts = c.keep_put.ensures.context ∙ (λ i. slice_set w.contexts client (record { key = (kept i).pair_key; version = version } ∷ [])) in
     let sessions = c.keep_put.ensures.session ∙ (λ i. with_op (c.in_default.ensures.same i) client (write (kept i).op_key (kept i).op_value version)) in

@@ -1,9 +1,8 @@
-use Rattle.std.proofs.Common.{◌≡◌, ◌≤◌, ◌<◌, ◌∷◌, [], ◌++◌, length, ap, subst, ◌∙◌, List, ℕ, arith}
+use Rattle.std.proofs.Common.{◌≡◌, ◌≤◌, ◌<◌, ◌∷◌, [], ◌++◌, length, ap, ◌∙◌, List, ℕ, arith}
 use Rattle.std.proofs.lemmas.Result.{err_from_is_err_and}
 use Rattle.cops_types.specs.declared.limits.TheConstants.{MAX_CLIENT_OPS, MAX_OPS}
 use Rattle.cops_types.specs.Histories.{Sessions, with_op}
 use Rattle.cops_types.specs.Operations.{operation_of}
-use Rattle.cops_trace.specs.Text.{IsOp}
 use Rattle.cops_trace.specs.Kept.{trace_of}
 use Rattle.cops_trace.proofs.Lists.{not_refused}
 use Rattle.cops_trace.proofs.Keeping.{kept_refused, kept_grown, kept_turn, kept_count, trace_grown}
@@ -30,7 +29,7 @@ invariant_of-self-2 c =
     let turns = kept_turn c.self.inside.format h cs c.args.client c.self.invariant in
     let all = kept_count c.self.inside.format h cs c.self.invariant in
     let room = not_refused _ _ MAX_CLIENT_OPS MAX_OPS (λ full. let bad = c.in_ok-reserve.ensures.too_many.1 (inside, full) in absurd cc) in
-    let kept = kept_grown c.self.inside.format h cs c.args.client (operation_of c.args.op) c.self.invariant inside (subst (IsOp c.self.inside.format) c.as_ref.ensures c.legal.ensures) (omega (arith, turns, room.0)) (omega (arith, all, room.1)) in
+    let kept = kept_grown c.self.inside.format h cs c.args.client (operation_of c.args.op) c.self.invariant inside ((rw c.as_ref.ensures at c.is_op.ensures.op) (rw (← c.self.view_is) at c.requires)) (omega (arith, turns, room.0)) (omega (arith, all, room.1)) in
     let grown_h : c.push.new.self.sessions ≡ with_op h c.args.client (operation_of c.args.op) = c.in_ok-push.ensures.ok ∙ ap (λ (g : Sessions). with_op g c.args.client (operation_of c.args.op)) c.in_ok-reserve.ensures.same in
     let grown_cs : c.push_reserved.new.self.items ≡ cs ++ c.args.client ∷ [] = c.push_reserved.ensures.items ∙ ap (λ (l : List ℕ). l ++ c.args.client ∷ []) c.in_ok-reserve-2.ensures.items in
     rw (grown_h, grown_cs) kept

@@ -24,6 +24,6 @@ returns-clause-ok c =
     rw (← c.self.view_is) (put_reported c.self.inside.keys c.entry_of-entry.new.keys c.self.inside.entries c.push.new.self c.self.inside.maxima c.self.inside.reserved.items c.self.inside.reservations c.self.inside.len c.args.client c.entry_of-entry.result (operation_of c.args.op)
     inside c.self.invariant made.gains made.sound made.reported c.push.ensures.all c.push.ensures.gains)
 
-pub returns-clause-open : goal.returns-clause-open
-returns-clause-open c =
+pub returns-clause-pending : goal.returns-clause-pending
+returns-clause-pending c =
     rw (← c.self.view_is) (operations_keep c.self.inside.keys.keys c.self.inside.entries.all c.self.inside.entries.get_numbers c.push.new.self.get_numbers c.push.ensures.numbers)

@@ -2,7 +2,7 @@ use Rattle.std.proofs.Common.{arith}
 use Rattle.std.proofs.lemmas.List.{length-map}
 use Rattle.cops_types.specs.Entries.{reported}
 use Rattle.cops_types.proofs.Sources.{open_or_sourced}
-use Rattle.cops_types.proofs.history.History.open_gets.Goals as goal
+use Rattle.cops_types.proofs.history.History.pending_reads.Goals as goal
 
 pub returns-clause-count : goal.returns-clause-count
 returns-clause-count c =

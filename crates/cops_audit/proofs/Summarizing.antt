@@ -74,7 +74,7 @@ mark_of_none (x ∷ xs) e = absurd (omega (arith, e))
 -- the summaries of a prefix of a session, with their mark
 pub prefix_summarized : (h : Sessions) (table : List VersionedPut) (client : ℕ) (session : List Summary) (count mark : ℕ) → IsPrefixSummarized h table client session → length session ≡ count → IsMark session (length session) mark
     → Summarized h table client session count mark
-prefix_summarized h table client session count mark front len up_to = record { whole = len; up_to = subst (λ (k : ℕ). IsMark session k mark) len up_to; seen = front.seen; marks = front.marks }
+prefix_summarized h table client session count mark prefix len up_to = record { whole = len; up_to = subst (λ (k : ℕ). IsMark session k mark) len up_to; seen = prefix.seen; marks = prefix.marks }
 
 -- no summaries are those of an empty prefix
 pub prefix_of_none : (h : Sessions) (table : List VersionedPut) (client : ℕ) (session : List Summary) → session ≡ [] → IsPrefixSummarized h table client session
@@ -111,10 +111,10 @@ set_other f d (y ∷ ys) (suc k) (suc c) x differs = set_other f d ys k c x (λ 
 
 module _ {A : Type 0} (f : A → List Summary) (h : Sessions) (table : List VersionedPut) (xs : List A) (k : ℕ) (x : A) (inside : k < length xs) where
   pub prefixes_set : (first : ℕ) → ArePrefixesSummarized h table first (map f xs) → IsPrefixSummarized h table (first + k) (f x) → ArePrefixesSummarized h table first (map f (slice_set xs k x))
-  prefixes_set first prefixes front = record {
+  prefixes_set first prefixes prefix = record {
     clients = omega (arith, length-map (slice_set xs k x) f, length-set xs k x, length-map xs f, prefixes.clients);
     sessions = λ c less. elim (cases_order c k) [
-      | inl same ↦ subst (λ (n : ℕ). IsPrefixSummarized h table (first + n) (get_or (map f (slice_set xs k x)) n [])) (sym same) (subst (IsPrefixSummarized h table (first + k)) (sym (set_here f [] xs k x inside)) front)
+      | inl same ↦ subst (λ (n : ℕ). IsPrefixSummarized h table (first + n) (get_or (map f (slice_set xs k x)) n [])) (sym same) (subst (IsPrefixSummarized h table (first + k)) (sym (set_here f [] xs k x inside)) prefix)
       | inr other ↦
           let differs : c ≢ k = λ e. elim other [ inl l ↦ omega (arith, l, e) | inr m ↦ omega (arith, m, e) ] in
           subst (IsPrefixSummarized h table (first + c)) (sym (set_other f [] xs k c x differs))
@@ -151,8 +151,8 @@ pub summarized_whole : {A : Type 0} (h : Sessions) (table : List VersionedPut) (
 summarized_whole h table first end f xs count prefixes whole = record {
   clients = omega (arith, count, length-map xs f);
   sessions = λ k less.
-      let front = prefixes.sessions k less in
-      record { whole = omega (arith, front.within, whole k (omega (arith, less, length-map xs f))); seen = front.seen; marks = front.marks };
+      let prefix = prefixes.sessions k less in
+      record { whole = omega (arith, prefix.within, whole k (omega (arith, less, length-map xs f))); seen = prefix.seen; marks = prefix.marks };
 }
 
 -- the summaries of the sessions of all clients

@@ -5,7 +5,7 @@ use Rattle.std.specs.Option.{option_map}
 use Rattle.cops_types.specs.Histories.{read}
 use Rattle.cops_types.specs.declared.entry.StoredOp.TheVariants.{Got}
 use Rattle.cops_types.specs.Entries.{reported}
-use Rattle.cops_types.proofs.history.History.open_get.Goals as goal
+use Rattle.cops_types.proofs.history.History.pending_read.Goals as goal
 
 pub key-requires : goal.key-requires
 key-requires c =
