@@ -1,3 +1,5 @@
+pub mod LineNames
+pub mod Naming
 pub mod Operations
 pub mod Others
 pub mod Steps

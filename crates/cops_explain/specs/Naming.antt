@@ -1,0 +1,7 @@
+-- A history, and what its operations are called.
+use Rattle.cops_types.specs.Histories.{Sessions}
+use Rattle.cops_explain.specs.declared.naming.Naming.{Naming}
+
+pub record ANamedHistory : Type 0 where
+  pub sessions : Sessions
+  pub naming : Naming
