@@ -44,6 +44,14 @@ fault_option = number_option (codes "fault") (parser.Signed (pos 1) (pos MAX_OPS
 abbrev pub picture_option : Rule
 picture_option = value_option (codes "picture")
 
+-- `--json`, which may be left out and takes no value
+abbrev pub json_option : Rule
+json_option = flag_option (codes "json")
+
+-- `--format N`, which may be left out and takes 1 or 2
+abbrev pub format_option : Rule
+format_option = number_option (codes "format") (parser.Signed (pos 1) (pos 2))
+
 -- `PORT`, which is required, and is a number from 1 to 65,535
 abbrev pub port_argument : Rule
 port_argument = record (positional (codes "port")) { parser = Some (parser.Signed (pos 1) (pos MAX_PORT)) }
@@ -60,17 +68,25 @@ idle_option = number_option (codes "idle") (parser.Signed (pos 1) (pos MAX_IDLE)
 abbrev pub audit_app : App
 audit_app = with_rule (with_rule (with_rule (new_app (codes "audit")) (positional (codes "trace"))) workers_option) so_far_option
 
--- `explain TRACE`, with `--all`, `--fault N` and `--picture FILE` or without them
+-- a subcommand that explains, with `--all`, `--fault N`, `--picture FILE` and `--json` or without them
+abbrev pub explaining : App → App
+explaining app = with_rule (with_rule (with_rule (with_rule app all_option) fault_option) picture_option) json_option
+
+-- `explain TRACE`
 abbrev pub explain_app : App
-explain_app = with_rule (with_rule (with_rule (with_rule (new_app (codes "explain")) (positional (codes "trace"))) all_option) fault_option) picture_option
+explain_app = explaining (with_rule (new_app (codes "explain")) (positional (codes "trace")))
+
+-- `check LINES`
+abbrev pub check_app : App
+check_app = explaining (with_rule (new_app (codes "check")) (positional (codes "lines")))
 
 -- `show TRACE`
 abbrev pub show_app : App
 show_app = with_rule (new_app (codes "show")) (positional (codes "trace"))
 
--- `import LINES TRACE`
+-- `import LINES TRACE`, with `--format N` or without it
 abbrev pub import_app : App
-import_app = with_rule (with_rule (new_app (codes "import")) (positional (codes "lines"))) (positional (codes "trace"))
+import_app = with_rule (with_rule (with_rule (new_app (codes "import")) (positional (codes "lines"))) (positional (codes "trace"))) format_option
 
 -- `convert TRACE NEW`
 abbrev pub convert_app : App
@@ -98,9 +114,9 @@ cops_top = record {
   subs = [];
 }
 
--- or a subcommand that judges a trace
+-- or a subcommand that judges a trace or lines
 abbrev pub judging_app : App
-judging_app = with_subcommand (with_subcommand cops_top audit_app.top) explain_app.top
+judging_app = with_subcommand (with_subcommand (with_subcommand cops_top audit_app.top) explain_app.top) check_app.top
 
 -- or one that shows a trace, imports one from lines or converts one
 abbrev pub tracing_app : App

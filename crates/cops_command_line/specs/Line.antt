@@ -1,5 +1,5 @@
 -- The job that words ask for, and what it means that they ask for none.
-use Rattle.std.specs.Prelude.{◌≡◌, ◌≢◌, ◌≤◌, ℕ, List, [], ◌∷◌, codes, Option, Some, None, option_map}
+use Rattle.std.specs.Prelude.{◌≡◌, ◌≢◌, ◌≤◌, ◌↔◌, ℕ, List, [], ◌∷◌, codes, Option, Some, None, option_map, IsTrue}
 use Rattle.std.specs.Str.Parse.{IsNumeral, digits_value, without_leading_plus}
 use Rattle.clap.specs.Words.{Row, Text, first_of, subcommand_of, fault_of, IsAmong}
 use Rattle.clap.specs.declared.error.kind.ErrorKind.{ErrorKind}
@@ -8,8 +8,11 @@ use Rattle.cops_types.specs.declared.limits.TheConstants.{MAX_OPS, MAX_WORKERS}
 use Rattle.cops_command_line.specs.declared.job.TheConstants.{MAX_PORT, MAX_SESSIONS, MAX_IDLE}
 use Rattle.cops_types.specs.declared.selection.Selection.{Selection}
 use Rattle.cops_types.specs.declared.selection.Selection.TheVariants.{First, All, One}
+use Rattle.cops_types.specs.declared.format.Format.{Format}
+use Rattle.cops_types.specs.Format.{number_of}
+use Rattle.cops_command_line.specs.declared.job.Wanted.{Wanted}
 use Rattle.cops_command_line.specs.declared.job.Job.{Job}
-use Rattle.cops_command_line.specs.declared.job.Job.TheVariants.{Audit, SoFar, Explain, Show, Import, Convert, Run, Serve}
+use Rattle.cops_command_line.specs.declared.job.Job.TheVariants.{Audit, SoFar, Explain, Check, Show, Import, Convert, Run, Serve}
 use Rattle.cops_command_line.specs.declared.fault.LineFault.{LineFault}
 use Rattle.cops_command_line.specs.declared.fault.LineFault.TheVariants.{Memory, Usage, Help, Version}
 use Rattle.cops_command_line.specs.Commands.{cops_app}
@@ -46,17 +49,28 @@ IsAsked all fault First = (¬ IsGiven all) × (fault ≡ None)
 IsAsked all fault All = IsGiven all × (fault ≡ None)
 IsAsked all fault (One n) = (¬ IsGiven all) × IsNumberGiven MAX_OPS fault n
 
+-- the explanation that the values of `--all`, `--fault`, `--picture` and `--json` ask for
+pub record IsWanted (rows : List Row) (wanted : Wanted) : Type 0 where
+  pub faults : IsAsked (first_of (codes "all") rows) (first_of (codes "fault") rows) wanted.faults
+  pub picture : option_map (λ s. s.now) wanted.picture ≡ first_of (codes "picture") rows
+  pub json : IsTrue wanted.is_json ↔ IsGiven (first_of (codes "json") rows)
+
+-- the format whose number a value is: format 1 where there is no value
+abbrev pub IsFormat : Option Text → Format → Type 0
+IsFormat value format = IsNumberOr1 2 value (number_of format)
+
 -- the job of a subcommand with these values: `audit` has one with its flag, but not together with a number of workers
 abbrev pub IsJobOf : Text → List Row → Job → Type 0
 IsJobOf name rows (Audit trace workers) =
     (name ≡ codes "audit") × (first_of (codes "trace") rows ≡ Some trace.now) × (¬ IsGiven (first_of (codes "so-far") rows)) × IsNumberOr1 MAX_WORKERS (first_of (codes "workers") rows) workers
 IsJobOf name rows (SoFar trace) =
     (name ≡ codes "audit") × (first_of (codes "trace") rows ≡ Some trace.now) × IsGiven (first_of (codes "so-far") rows) × (first_of (codes "workers") rows ≡ None)
-IsJobOf name rows (Explain trace faults picture) =
-    (name ≡ codes "explain") × (first_of (codes "trace") rows ≡ Some trace.now) × IsAsked (first_of (codes "all") rows) (first_of (codes "fault") rows) faults
-    × (option_map (λ s. s.now) picture ≡ first_of (codes "picture") rows)
+IsJobOf name rows (Explain trace wanted) = (name ≡ codes "explain") × (first_of (codes "trace") rows ≡ Some trace.now) × IsWanted rows wanted
+IsJobOf name rows (Check lines wanted) = (name ≡ codes "check") × (first_of (codes "lines") rows ≡ Some lines.now) × IsWanted rows wanted
 IsJobOf name rows (Show trace) = (name ≡ codes "show") × (first_of (codes "trace") rows ≡ Some trace.now)
-IsJobOf name rows (Import lines trace) = (name ≡ codes "import") × (first_of (codes "lines") rows ≡ Some lines.now) × (first_of (codes "trace") rows ≡ Some trace.now)
+IsJobOf name rows (Import lines trace format) =
+    (name ≡ codes "import") × (first_of (codes "lines") rows ≡ Some lines.now) × (first_of (codes "trace") rows ≡ Some trace.now)
+    × IsFormat (first_of (codes "format") rows) format
 IsJobOf name rows (Convert trace new) = (name ≡ codes "convert") × (first_of (codes "trace") rows ≡ Some trace.now) × (first_of (codes "new") rows ≡ Some new.now)
 IsJobOf name rows (Run scenario trace) = (name ≡ codes "run") × (first_of (codes "scenario") rows ≡ Some scenario.now) × (first_of (codes "trace") rows ≡ Some trace.now)
 IsJobOf name rows (Serve port scenario sessions idle) =

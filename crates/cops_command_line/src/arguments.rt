@@ -2,12 +2,12 @@
 ghost use Rattle.std.specs.Prelude.{◌≡◌, false, pos};
 ghost use Rattle.clap.specs.Words.{rule_of};
 ghost use Rattle.clap.specs.declared.builder.value_parser.ValueParser.TheVariants as parser;
-ghost use Rattle.cops_command_line.specs.Commands.{all_option, fault_option, flag_option, idle_option, number_option, picture_option, port_argument, positional, sessions_option, so_far_option, value_option, workers_option};
+ghost use Rattle.cops_command_line.specs.Commands.{all_option, fault_option, flag_option, format_option, idle_option, json_option, number_option, picture_option, port_argument, positional, sessions_option, so_far_option, value_option, workers_option};
 ghost use Rattle.cops_command_line.specs.declared.job.TheConstants.{MAX_PORT};
 
 use crate::job::MAX_PORT;
 use crate::texts::{
-    ALL_HELP, FAULT_HELP, IDLE_HELP, PICTURE_HELP, PORT_HELP, SESSIONS_HELP, SO_FAR_HELP,
+    ALL_HELP, FAULT_HELP, FORMAT_HELP, IDLE_HELP, JSON_HELP, PICTURE_HELP, PORT_HELP, SESSIONS_HELP, SO_FAR_HELP,
     WORKERS_HELP,
 };
 use clap::builder::ValueParser;
@@ -116,6 +116,23 @@ pub fn picture_arg<'a>(alloc: Global) -> Arg<'a>
     ensures local { result.global ≡ false }
 {
     value_arg(alloc, "picture", "FILE", PICTURE_HELP)
+}
+
+/// The flag that asks for JSON.
+pub fn json_arg<'a>(alloc: Global) -> Arg<'a>
+    ensures rule { rule_of result ≡ json_option }
+    ensures local { result.global ≡ false }
+{
+    flag_arg(alloc, "json", JSON_HELP)
+}
+
+/// The option that names a trace's format.
+pub fn format_arg<'a>(alloc: Global) -> Arg<'a>
+    ensures rule { rule_of result ≡ format_option }
+    ensures local { result.global ≡ false }
+{
+    let number = value_parser!(u8).range(1..=2);
+    number_arg(alloc, "format", "N", number, FORMAT_HELP)
 }
 
 /// The port, which is required.

@@ -2,14 +2,14 @@
 ghost use Rattle.std.specs.Prelude.{◌≡◌, IfOk, codes, false};
 ghost use Rattle.clap.specs.Words.{app_of, new_app, rule_of, with_rule};
 ghost use Rattle.clap.specs.declared.builder.command.Command.TheViews.{out-Command as fields_of};
-ghost use Rattle.cops_command_line.specs.Commands.{audit_app, cops_app, cops_top, convert_app, explain_app, import_app, judging_app, port_argument, positional, run_app, serve_app, show_app, tracing_app, versioned};
+ghost use Rattle.cops_command_line.specs.Commands.{audit_app, check_app, explaining, cops_app, cops_top, convert_app, explain_app, import_app, judging_app, port_argument, positional, run_app, serve_app, show_app, tracing_app, versioned};
 
 use crate::arguments::{
-    all_arg, fault_arg, file_arg, idle_arg, picture_arg, port_arg, sessions_arg, so_far_arg,
-    workers_arg,
+    all_arg, fault_arg, file_arg, format_arg, idle_arg, json_arg, picture_arg, port_arg,
+    sessions_arg, so_far_arg, workers_arg,
 };
 use crate::texts::{
-    ABOUT, AUDIT_ABOUT, AUDIT_LONG_ABOUT, CONVERT_ABOUT, CONVERT_LONG_ABOUT, EXPLAIN_ABOUT,
+    ABOUT, AUDIT_ABOUT, AUDIT_LONG_ABOUT, CHECK_ABOUT, CHECK_LONG_ABOUT, CONVERT_ABOUT, CONVERT_LONG_ABOUT, EXPLAIN_ABOUT,
     EXPLAIN_LONG_ABOUT, IMPORT_ABOUT, IMPORT_LONG_ABOUT, LINES_HELP, LONG_ABOUT, NEW_TRACE_HELP,
     RUN_ABOUT, RUN_LONG_ABOUT, SCENARIO_HELP, SERVE_ABOUT, SERVE_LONG_ABOUT, SHOW_ABOUT,
     SHOW_LONG_ABOUT, TRACE_HELP, VERSION,
@@ -70,13 +70,31 @@ fn audit_command<'a>(alloc: Global) -> Result<Command<'a>, AllocError>
     command.arg(workers_arg(alloc))?.arg(so_far_arg(alloc))
 }
 
+/// A subcommand with the options of an explanation.
+fn explaining<'a>(alloc: Global, command: Command<'a>) -> Result<Command<'a>, AllocError>
+    requires { (fields_of command).has_globals ≡ false }
+    ensures app { IfOk result (λ c. app_of c ≡ explaining (app_of command.entry)) }
+    ensures local { IfOk result (λ c. (fields_of c).has_globals ≡ false) }
+{
+    let command = command.arg(all_arg(alloc))?.arg(fault_arg(alloc))?;
+    command.arg(picture_arg(alloc))?.arg(json_arg(alloc))
+}
+
 fn explain_command<'a>(alloc: Global) -> Result<Command<'a>, AllocError>
     ensures app { IfOk result (λ c. app_of c ≡ explain_app) }
     ensures local { IfOk result (λ c. (fields_of c).has_globals ≡ false) }
 {
     let command = of_trace(alloc, "explain", EXPLAIN_ABOUT, EXPLAIN_LONG_ABOUT)?;
-    let command = command.arg(all_arg(alloc))?.arg(fault_arg(alloc))?;
-    command.arg(picture_arg(alloc))
+    explaining(alloc, command)
+}
+
+fn check_command<'a>(alloc: Global) -> Result<Command<'a>, AllocError>
+    ensures app { IfOk result (λ c. app_of c ≡ check_app) }
+    ensures local { IfOk result (λ c. (fields_of c).has_globals ≡ false) }
+{
+    let lines = file_arg(alloc, "lines", "LINES", LINES_HELP);
+    let command = of_argument(alloc, "check", CHECK_ABOUT, CHECK_LONG_ABOUT, lines)?;
+    explaining(alloc, command)
 }
 
 fn show_command<'a>(alloc: Global) -> Result<Command<'a>, AllocError>
@@ -107,7 +125,8 @@ fn import_command<'a>(alloc: Global) -> Result<Command<'a>, AllocError>
     ensures local { IfOk result (λ c. (fields_of c).has_globals ≡ false) }
 {
     let lines = file_arg(alloc, "lines", "LINES", LINES_HELP);
-    to_trace(alloc, "import", IMPORT_ABOUT, IMPORT_LONG_ABOUT, lines)
+    let command = to_trace(alloc, "import", IMPORT_ABOUT, IMPORT_LONG_ABOUT, lines)?;
+    command.arg(format_arg(alloc))
 }
 
 fn convert_command<'a>(alloc: Global) -> Result<Command<'a>, AllocError>
@@ -163,14 +182,16 @@ fn top_command<'a>(alloc: Global) -> Result<Command<'a>, AllocError>
     with_version(command).bin_name("cops")
 }
 
-/// The program's command with the subcommands that judge a trace.
+/// The program's command with the subcommands that judge a trace or lines.
 fn judging_command<'a>(alloc: Global) -> Result<Command<'a>, AllocError>
     ensures { IfOk result (λ c. app_of c ≡ judging_app) }
 {
     let audit = audit_command(alloc)?;
     let command = top_command(alloc)?.subcommand(audit)?;
     let explain = explain_command(alloc)?;
-    command.subcommand(explain)
+    let command = command.subcommand(explain)?;
+    let check = check_command(alloc)?;
+    command.subcommand(check)
 }
 
 /// The command of `judging_command` with the subcommands that show a trace, import one from lines or convert one.

@@ -1,5 +1,5 @@
 //! The jobs that the words on the command line ask for.
-use cops_types::Selection;
+use cops_types::{Format, Selection};
 
 /// The greatest port.
 pub const MAX_PORT: u16 = 65_535;
@@ -9,6 +9,15 @@ pub const MAX_SESSIONS: u16 = 65_535;
 
 /// The greatest number of seconds that a client of a server may be idle, where a number is given.
 pub const MAX_IDLE: u16 = 65_535;
+
+/// What an explanation is to be: of which faults, with a picture of one of them to a file, if one is named, and as JSON
+/// or in words.
+#[derive(Clone, Copy, Debug, PartialEq, Eq)]
+pub struct Wanted<'a> {
+    pub faults: Selection,
+    pub picture: Option<&'a str>,
+    pub is_json: bool,
+}
 
 /// What the words ask for.
 #[derive(Clone, Copy, Debug, PartialEq, Eq)]
@@ -23,22 +32,26 @@ pub enum Job<'a> {
     SoFar {
         trace: &'a str,
     },
-    /// Explain these faults of a trace, and draw a picture to a file, if one is named. `-` as the trace is standard
-    /// input.
+    /// Judge a trace and explain its faults. `-` as the trace is standard input.
     Explain {
         trace: &'a str,
-        faults: Selection,
-        picture: Option<&'a str>,
+        wanted: Wanted<'a>,
+    },
+    /// Judge the history that lines describe and explain its faults. `-` as the lines is standard input.
+    Check {
+        lines: &'a str,
+        wanted: Wanted<'a>,
     },
     /// Print a trace, one line for each frame. `-` is standard input.
     Show {
         trace: &'a str,
     },
-    /// Import lines as a trace, write it to a file, and print the names of its clients. `-` as the lines is standard
-    /// input, and as the trace standard output.
+    /// Import lines as a trace of this format, write it to a file, and print the names of its clients. `-` as the lines
+    /// is standard input, and as the trace standard output.
     Import {
         lines: &'a str,
         trace: &'a str,
+        format: Format,
     },
     /// Write a trace of either format as one of format 2 to a file, and print how many operations it has. `-` as the
     /// trace is standard input, and as the new one standard output.

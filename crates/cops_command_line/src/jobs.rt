@@ -4,7 +4,7 @@ ghost use Rattle.clap.specs.Words.{found_of, rows_of, subcommand_rows_of};
 ghost use Rattle.cops_command_line.specs.Line.{HasNoJob, HasNoJobIn, IsJobIn, IsJobOf};
 
 use crate::job::Job;
-use crate::values::{asked, idle, is_given, port, sessions, value, workers};
+use crate::values::{format, idle, is_given, port, sessions, value, wanted, workers};
 use clap::ArgMatches;
 
 /// The job of `audit`, for a trace that is whole or may be cut: a number of workers together with `--so-far` is no job.
@@ -23,34 +23,27 @@ fn audit_job<'a>(matches: &ArgMatches<'a>) -> Option<Job<'a>>
     }
 }
 
-/// The job of `explain`: all faults and one of them together are no job.
-fn explain_job<'a>(matches: &ArgMatches<'a>) -> Option<Job<'a>>
-    ensures some { IfSome result (IsJobOf (codes "explain") (rows_of (found_of matches.now))) }
-    ensures none { IfNone result (HasNoJob (codes "explain") (rows_of (found_of matches.now))) }
-{
-    let trace = value(matches, "trace")?;
-    let faults = asked(matches)?;
-    let picture = value(matches, "picture");
-    Some(Job::Explain {
-        trace,
-        faults,
-        picture,
-    })
-}
-
 fn job_of<'a>(name: &str, matches: &ArgMatches<'a>) -> Option<Job<'a>>
     ensures some { IfSome result (IsJobOf name.now (rows_of (found_of matches.now))) }
     ensures none { IfNone result (HasNoJob name.now (rows_of (found_of matches.now))) }
 {
     match name {
         "audit" => audit_job(matches),
-        "explain" => explain_job(matches),
+        "explain" => Some(Job::Explain {
+            trace: value(matches, "trace")?,
+            wanted: wanted(matches)?,
+        }),
+        "check" => Some(Job::Check {
+            lines: value(matches, "lines")?,
+            wanted: wanted(matches)?,
+        }),
         "show" => Some(Job::Show {
             trace: value(matches, "trace")?,
         }),
         "import" => Some(Job::Import {
             lines: value(matches, "lines")?,
             trace: value(matches, "trace")?,
+            format: format(matches)?,
         }),
         "convert" => Some(Job::Convert {
             trace: value(matches, "trace")?,

@@ -7,7 +7,7 @@ use crate::command::cops_command;
 use crate::fault::LineFault;
 use crate::job::Job;
 use crate::jobs::job_in;
-use crate::texts::{ALL_CONFLICT, SO_FAR_CONFLICT};
+use crate::texts::{ALL_CONFLICT, CHECK_ALL_CONFLICT, SO_FAR_CONFLICT};
 use clap::Error;
 use clap::error::ErrorKind;
 use std::alloc::Global;
@@ -28,14 +28,15 @@ fn as_fault(alloc: Global, error: &Error) -> LineFault
     }
 }
 
-/// The fault for words that the command takes, though they are no job: those of `explain` with both `--all` and
-/// `--fault`, and those of `audit` with both `--so-far` and `--workers`. No other words are without a job, though that
+/// The fault for words that the command takes, though they are no job: those of `explain` and `check` with both `--all`
+/// and `--fault`, and those of `audit` with both `--so-far` and `--workers`. No other words are without a job, though that
 /// is not proved, as no clause says that a required argument has a value.
 fn no_job(alloc: Global, subcommand: Option<&str>) -> LineFault
     ensures { Reports ArgumentConflict result }
 {
     let text = match subcommand {
         Some("explain") => ALL_CONFLICT,
+        Some("check") => CHECK_ALL_CONFLICT,
         _ => SO_FAR_CONFLICT,
     };
     match String::from_str(alloc, text) {
@@ -47,9 +48,10 @@ fn no_job(alloc: Global, subcommand: Option<&str>) -> LineFault
 /// The job that the words after the program's name ask for:
 ///
 /// - `audit TRACE`, with `--workers N` or without it, which means 1, or with `--so-far`;
-/// - `explain TRACE`, with `--all` or `--fault N` or neither, which means the first 20, and with `--picture FILE` or
-///   without it;
-/// - `show TRACE`; `import LINES TRACE`; `convert TRACE NEW`; `run SCENARIO TRACE`;
+/// - `explain TRACE` and `check LINES`, with `--all` or `--fault N` or neither, which means the first 20, and with
+///   `--picture FILE` and `--json` or without them;
+/// - `show TRACE`; `convert TRACE NEW`; `run SCENARIO TRACE`;
+/// - `import LINES TRACE`, with `--format N`, 1 or 2, or without it, which means 1;
 /// - `serve PORT SCENARIO`, with `--sessions N` or without it, which means 1, and with `--idle SECONDS` or without it;
 /// - no words, which means `audit -`.
 ///

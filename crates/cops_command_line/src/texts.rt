@@ -43,7 +43,18 @@ faults that were not looked for, where there are any. With --picture one fault i
 the one of --fault or else the first, and the file of the picture is written anew: it is empty
 where there is no such fault. Where the picture goes to standard output, the words go to standard
 error. A file that is no trace is answered with one line, `faulty: ..`, that says what is wrong and
-at which byte.";
+at which byte. With --json the answer is one JSON object, also where the file is no trace.";
+
+pub const CHECK_ABOUT: &str = "Judges what the clients of a store saw, and explains the faults";
+
+pub const CHECK_LONG_ABOUT: &str = "\
+Judges JSON Lines that say what the clients of a store saw, and explains the faults by the names
+and lines of the file.
+
+The lines are those of `cops import --format 2`, which is judged as by `cops audit`, without a trace
+file. The verdict is printed, and where it is `refused: ..`, of each fault which operations show it,
+each by the name of its client and the number of its line. The options are those of `cops explain`.
+The first line that is wrong is answered with one line, `faulty: line N: ..`.";
 
 pub const SHOW_ABOUT: &str = "Prints a trace as text, a line for each frame";
 
@@ -59,10 +70,11 @@ pub const IMPORT_LONG_ABOUT: &str = "\
 Makes a trace of JSON Lines that tell what the clients of another store saw.
 
 A line is one operation, a JSON object, and each client's lines stand in the order in which it
-did them. Its members are client, a text or a whole number; put or get, the key; value, a text;
+did them. Its members are client, a text or a whole number; put, get or del, the key; value, a text;
 and version, a text `clock.node`, a whole number, which is a clock at node 0, or a list of both.
-A get that found nothing has the value null, and a version that is null or missing. Other
-members, and lines of blanks, are passed over.
+A get that found nothing has the value null, and a version that is null or missing. With --format 2
+there may be deletions, which have no value or null, and gets that found one, with the value null
+and its version. Other members, and lines of blanks, are passed over.
 
 Prints a line `client N NAME` for each client with its number in the trace, and then
 `imported: N operations, M clients`. The first line that is wrong is answered with one line,
@@ -128,6 +140,11 @@ pub const ALL_HELP: &str = "Explain every fault, not only the first 20; not with
 
 pub const FAULT_HELP: &str = "Explain only the fault of this number, 1 to 16000000";
 
+pub const JSON_HELP: &str = "Print one JSON object in place of words";
+
+pub const FORMAT_HELP: &str =
+    "The format of the trace, 1 or 2; without it 1, which has no deletions";
+
 pub const PICTURE_HELP: &str =
     "The file to draw one fault to, that of --fault or else the first; `-` for standard output";
 
@@ -140,11 +157,20 @@ Usage: cops audit --so-far <TRACE>
 For more information, try '--help'.
 ";
 
-/// The usage where `--all` is given with `--fault`.
+/// The usage where `--all` is given with `--fault` to `explain`.
 pub const ALL_CONFLICT: &str = "\
 error: the argument '--all' cannot be used with '--fault <N>'
 
 Usage: cops explain --all <TRACE>
+
+For more information, try '--help'.
+";
+
+/// The usage where `--all` is given with `--fault` to `check`.
+pub const CHECK_ALL_CONFLICT: &str = "\
+error: the argument '--all' cannot be used with '--fault <N>'
+
+Usage: cops check --all <LINES>
 
 For more information, try '--help'.
 ";

@@ -4,11 +4,13 @@ ghost use Rattle.clap.specs.Words.{first_of, found_of, rows_of};
 ghost use Rattle.cops_types.specs.declared.limits.TheConstants.{MAX_OPS, MAX_WORKERS};
 ghost use Rattle.cops_types.specs.declared.selection.Selection.{Selection as ASelection};
 ghost use Rattle.cops_command_line.specs.declared.job.TheConstants.{MAX_IDLE, MAX_PORT, MAX_SESSIONS};
-ghost use Rattle.cops_command_line.specs.Line.{IsAsked, IsGiven, IsNumber, IsNumberGiven, IsNumberIfGiven, IsNumberOr1};
+ghost use Rattle.cops_types.specs.declared.format.Format.{Format as AFormat};
+ghost use Rattle.cops_command_line.specs.declared.job.Wanted.{Wanted as AWanted};
+ghost use Rattle.cops_command_line.specs.Line.{IsAsked, IsFormat, IsGiven, IsNumber, IsNumberGiven, IsNumberIfGiven, IsNumberOr1, IsWanted};
 
-use crate::job::{MAX_IDLE, MAX_PORT, MAX_SESSIONS};
+use crate::job::{MAX_IDLE, MAX_PORT, MAX_SESSIONS, Wanted};
 use clap::ArgMatches;
-use cops_types::{MAX_OPS, MAX_WORKERS, Selection};
+use cops_types::{Format, MAX_OPS, MAX_WORKERS, Selection};
 
 /// The first value of an argument.
 pub fn value<'a>(matches: &ArgMatches<'a>, id: &str) -> Option<&'a str>
@@ -97,7 +99,7 @@ pub fn idle(matches: &ArgMatches<'_>) -> Option<Option<u16>>
 }
 
 /// Which faults are asked for: `None` where both all and one of them are.
-pub fn asked(matches: &ArgMatches<'_>) -> Option<Selection>
+fn asked(matches: &ArgMatches<'_>) -> Option<Selection>
     ensures some { IfSome result (IsAsked (first_of (codes "all") (rows_of (found_of matches.now))) (first_of (codes "fault") (rows_of (found_of matches.now)))) }
     ensures none { IfNone result ((asked : ASelection) → ¬ IsAsked (first_of (codes "all") (rows_of (found_of matches.now))) (first_of (codes "fault") (rows_of (found_of matches.now))) asked) }
 {
@@ -107,5 +109,28 @@ pub fn asked(matches: &ArgMatches<'_>) -> Option<Selection>
         Some(text) => Some(Selection::One(number_in(text, MAX_OPS as u32)?)),
         None if all => Some(Selection::All),
         None => Some(Selection::First),
+    }
+}
+
+/// What an explanation is to be: `None` where both all faults and one of them are asked for.
+pub fn wanted<'a>(matches: &ArgMatches<'a>) -> Option<Wanted<'a>>
+    ensures some { IfSome result (IsWanted (rows_of (found_of matches.now))) }
+    ensures none { IfNone result ((wanted : AWanted) → ¬ IsWanted (rows_of (found_of matches.now)) wanted) }
+{
+    Some(Wanted {
+        faults: asked(matches)?,
+        picture: value(matches, "picture"),
+        is_json: is_given(matches, "json"),
+    })
+}
+
+/// The format of a trace: format 1 where it is not given.
+pub fn format(matches: &ArgMatches<'_>) -> Option<Format>
+    ensures some { IfSome result (IsFormat (first_of (codes "format") (rows_of (found_of matches.now)))) }
+    ensures none { IfNone result ((format : AFormat) → ¬ IsFormat (first_of (codes "format") (rows_of (found_of matches.now))) format) }
+{
+    match value(matches, "format") {
+        Some(text) if number_in(text, 2)? == 2 => Some(Format::Two),
+        _ => Some(Format::One),
     }
 }

@@ -8,5 +8,7 @@ pub returns : goal.returns
 returns c =
     let audit_is = ap (λ (a : App). a.top) c.in_ok-audit.ensures.app in
     let explain_is = ap (λ (a : App). a.top) c.in_ok-explain.ensures.app in
+    let check_is = ap (λ (a : App). a.top) c.in_ok-check.ensures.app in
     let with_audit = c.in_ok-command.ensures.shape c.in_ok-audit.ensures.local ∙ ap₂ with_subcommand c.in_ok-top_command.ensures.app audit_is in
-    IfOk-weaker c.subcommand-2.result _ _ (λ r h. h.shape c.in_ok-explain.ensures.local ∙ ap₂ with_subcommand with_audit explain_is) c.subcommand-2.ensures
+    let with_explain = c.in_ok-command-2.ensures.shape c.in_ok-explain.ensures.local ∙ ap₂ with_subcommand with_audit explain_is in
+    IfOk-weaker c.subcommand-3.result _ _ (λ r h. h.shape c.in_ok-check.ensures.local ∙ ap₂ with_subcommand with_explain check_is) c.subcommand-3.ensures
