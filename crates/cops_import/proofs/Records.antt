@@ -11,7 +11,6 @@ use Rattle.cops_types.specs.declared.limits.TheConstants.{MAX_CLIENTS, MAX_CLIEN
 use Rattle.cops_types.specs.Histories.{Operation}
 use Rattle.cops_types.specs.Operations.{operation_of}
 use Rattle.cops_types.specs.declared.format.Format.{Format}
-use Rattle.cops_types.specs.declared.format.Format.TheVariants.{One}
 use Rattle.cops_wire.specs.Message.{encoded}
 use Rattle.cops_wire.specs.Records.{record_message}
 use Rattle.cops_wire.specs.declared.message.Message.TheVariants.{TraceEnd}
@@ -29,9 +28,9 @@ use Rattle.cops_trace.proofs.Allocation.{IsTrace-grown, IsTrace-none, beginning-
 use Rattle.cops_trace.proofs.Readings.{prefix_len, text_len}
 use Rattle.cops_trace.proofs.Underway.{counts_grown, counts_none}
 use Rattle.cops_import.specs.Faults.{IsTooMany}
-use Rattle.cops_import.specs.Lines.{names_of, record_of, trace_of}
+use Rattle.cops_import.specs.Lines.{names_of, record_of, records_of, trace_of}
 use Rattle.cops_import.specs.Names.{number_of, with_name}
-use Rattle.cops_import.specs.Underway.{HasLeft, HasTaken, HasWritten, trace_to}
+use Rattle.cops_import.specs.Underway.{HasLeft, HasTaken, HasWritten, format_of, trace_to}
 use Rattle.cops_import.specs.Writing.{fault_of}
 use Rattle.cops_import.specs.declared.fault.JsonLineFault.TheVariants.{TooManyOperations}
 use Rattle.cops_import.specs.declared.importer.Importer.{Importer}
@@ -43,15 +42,15 @@ use Rattle.cops_import.proofs.Numbering.{names_more, number_own, records_kept}
 abbrev entry : List LineOp → LineOp → ARecord
 entry given reported = record { client = number_of (names_of given) reported.name; op = operation_of reported.op }
 
-pub trace_more : (clients : ℕ) (given : List LineOp) (reported : LineOp) → trace_to clients (given ++ reported ∷ []) ≡ grown (trace_to clients given) (entry given reported)
-trace_more clients given reported =
+pub trace_more : (format : Format) (clients : ℕ) (given : List LineOp) (reported : LineOp) → trace_to format clients (given ++ reported ∷ []) ≡ grown (trace_to format clients given) (entry given reported)
+trace_more format clients given reported =
     let names = names_of given in
     let all = with_name names reported.name in
     let more : map (record_of (names_of (given ++ reported ∷ []))) (given ++ reported ∷ []) ≡ map (record_of all) (given ++ reported ∷ []) =
     ap (λ (ns : List (List ℕ)). map (record_of ns) (given ++ reported ∷ [])) (names_more given reported) in
     let kept : map (record_of all) given ≡ map (record_of names) given = records_kept [] given reported.name in
     let last : record_of all reported ≡ entry given reported = ap (λ (k : ℕ). record { client = k; op = operation_of reported.op }) (number_own names reported.name) in
-    ap (λ (rs : List ARecord). record { format = One; clients = clients; records = rs })
+    ap (λ (rs : List ARecord). record { format = format; clients = clients; records = rs })
     (more ∙ map-append (record_of all) given (reported ∷ []) ∙ ap (λ (rs : List ARecord). rs ++ record_of all reported ∷ []) kept ∙ ap (λ (r : ARecord). map (record_of names) given ++ r ∷ []) last)
 
 -- ---- what is written
@@ -96,16 +95,17 @@ module _ {W : Type 0} (contents : W → Option (List ℕ)) (from : Counted W) wh
       (λ q. subst (λ (n : ℕ). Failed n (failures new.writer)) h.heard (failed q))
 
   -- one more operation was taken
-  pub taken_more : (given : List LineOp) (reported : LineOp) (old new : Importer W) (client : ℕ) → HasTaken contents from given old → new.clients ≡ old.clients
+  pub taken_more : (given : List LineOp) (reported : LineOp) (old new : Importer W) (client : ℕ) → HasTaken contents from given old → new.clients ≡ old.clients → format_of new ≡ format_of old
       → new.names ≡ with_name old.names reported.name → new.operations ≡ min (old.operations + 1) 18446744073709551615 → client ≡ number_of old.names reported.name
-      → HasTurn old.writer.counts client → HasWritten contents from (grown (trace_to old.clients given) (record { client = client; op = operation_of reported.op })) new.writer
+      → HasTurn old.writer.counts client → HasWritten contents from (grown (trace_to (format_of old) old.clients given) (record { client = client; op = operation_of reported.op })) new.writer
       → HasTaken contents from (given ++ reported ∷ []) new
-  taken_more given reported old new client h clients names operations number room wrote =
-      let many : length (trace_to old.clients given).records ≡ length given = length-map given (record_of (names_of given)) in
+  taken_more given reported old new client h clients format names operations number room wrote =
+      let many : length (trace_to (format_of old) old.clients given).records ≡ length given = length-map given (record_of (names_of given)) in
       let entered : client ≡ number_of (names_of given) reported.name = number ∙ ap (λ (ns : List (List ℕ)). number_of ns reported.name) h.names in
-      let trace : grown (trace_to old.clients given) (record { client = client; op = operation_of reported.op }) ≡ trace_to new.clients (given ++ reported ∷ []) =
-      ap (λ (k : ℕ). grown (trace_to old.clients given) (record { client = k; op = operation_of reported.op })) entered ∙ sym (trace_more old.clients given reported)
-      ∙ ap (λ (k : ℕ). trace_to k (given ++ reported ∷ [])) (sym clients) in
+      let trace : grown (trace_to (format_of old) old.clients given) (record { client = client; op = operation_of reported.op }) ≡ trace_to (format_of new) new.clients (given ++ reported ∷ []) =
+      ap (λ (k : ℕ). grown (trace_to (format_of old) old.clients given) (record { client = k; op = operation_of reported.op })) entered ∙ sym (trace_more (format_of old) old.clients given reported)
+      ∙ ap (λ (k : ℕ). trace_to (format_of old) k (given ++ reported ∷ [])) (sym clients)
+      ∙ ap (λ (f : Format). trace_to f new.clients (given ++ reported ∷ [])) (sym format) in
       record {
         names = names ∙ ap (λ (ns : List (List ℕ)). with_name ns reported.name) h.names ∙ sym (names_more given reported);
         operations = omega (arith, operations, h.operations, length-append given (reported ∷ []), room.2, h.wrote.counts.total, many);
@@ -114,41 +114,41 @@ module _ {W : Type 0} (contents : W → Option (List ℕ)) (from : Counted W) wh
 
   -- ---- the head and the end
 
-  pub left_new : (w : Counted W) (clients : ℕ) (e : WriteFault) → clients < 2 ^ 16 → IsUnwritten (head_frame One clients) 0 (contents (inner from)) (contents (inner w)) e
+  pub left_new : (w : Counted W) (format : Format) (clients : ℕ) (e : WriteFault) → clients < 2 ^ 16 → IsUnwritten (head_frame format clients) 0 (contents (inner from)) (contents (inner w)) e
       → (e ≢ write.Memory → Failed (failures from) (failures w)) → HasLeft contents from (fault_of e) w
-  left_new w clients e few unwritten failed = left_of e w (new_cut (contents (inner from)) (contents (inner w)) One clients e few unwritten) failed
+  left_new w format clients e few unwritten failed = left_of e w (new_cut (contents (inner from)) (contents (inner w)) format clients e few unwritten) failed
 
   -- no operation was taken
-  pub taken_none : (i : Importer W) → i.names ≡ [] → i.operations ≡ 0 → i.clients < 2 ^ 16 → Appends (contents (inner from)) (contents (inner i.writer.writer)) (head_frame One i.clients)
-      → i.writer.counts ≡ nothing One i.clients → i.writer.written ≡ more_written 0 (length (head_frame One i.clients)) → failures i.writer.writer ≡ failures from → HasTaken contents from [] i
-  taken_none i names operations few head counts written heard =
-      let t = trace_to i.clients [] in
-      let trace = IsTrace-none One i.clients few in
-      let same : beginning t ≡ head_frame One i.clients = beginning-none One i.clients in
+  pub taken_none : (format : Format) (i : Importer W) → i.names ≡ [] → i.operations ≡ 0 → i.clients < 2 ^ 16
+      → Appends (contents (inner from)) (contents (inner i.writer.writer)) (head_frame format i.clients) → i.writer.counts ≡ nothing format i.clients
+      → i.writer.written ≡ more_written 0 (length (head_frame format i.clients)) → failures i.writer.writer ≡ failures from → HasTaken contents from [] i
+  taken_none format i names operations few head counts written heard =
+      let t = trace_to format i.clients [] in
+      let trace = IsTrace-none format i.clients few in
+      let same : beginning t ≡ head_frame format i.clients = beginning-none format i.clients in
+      let is : format_of i ≡ format = ap (λ (c : ACounts). c.format) counts in
+      let wrote : HasWritten contents from t i.writer =
       record {
-        names = names;
-        operations = operations;
-        wrote = record {
-          is_trace = trace;
-          counts = subst (AreCountsOf t) (sym counts) (counts_none One i.clients);
-          in_all = omega (arith, written, ap length same, prefix_len (Some t) trace);
-          appends = subst (Appends (contents (inner from)) (contents (inner i.writer.writer))) (sym same) head;
-          heard = heard;
-        };
-      }
+        is_trace = trace;
+        counts = subst (AreCountsOf t) (sym counts) (counts_none format i.clients);
+        in_all = omega (arith, written, ap length same, prefix_len (Some t) trace);
+        appends = subst (Appends (contents (inner from)) (contents (inner i.writer.writer))) (sym same) head;
+        heard = heard;
+      } in
+      record { names = names; operations = operations; wrote = subst (λ (f : Format). HasWritten contents from (trace_to f i.clients []) i.writer) (sym is) wrote }
 
   end_is : (t : ATrace) (c : ACounts) → AreCountsOf t c → text t ≡ beginning t ++ end_frame c
   end_is t c counts = ap (λ (n : ℕ). beginning t ++ encoded (TraceEnd n)) (sym counts.total)
 
-  pub ended_trace : (given : List LineOp) (i : Importer W) → HasTaken contents from given i → length i.names ≡ i.clients → IsTrace (trace_of given)
-  ended_trace given i h many = subst (λ (k : ℕ). IsTrace (trace_to k given)) (sym many ∙ ap length h.names) h.wrote.is_trace
+  pub ended_trace : (given : List LineOp) (i : Importer W) → HasTaken contents from given i → length i.names ≡ i.clients → IsTrace (trace_of (format_of i) given)
+  ended_trace given i h many = subst (λ (k : ℕ). IsTrace (trace_to (format_of i) k given)) (sym many ∙ ap length h.names) h.wrote.is_trace
 
   pub ended_written : (given : List LineOp) (i : Importer W) (w : Counted W) → HasTaken contents from given i → length i.names ≡ i.clients
-      → Appends (contents (inner i.writer.writer)) (contents (inner w)) (end_frame i.writer.counts) → Appends (contents (inner from)) (contents (inner w)) (text (trace_of given))
+      → Appends (contents (inner i.writer.writer)) (contents (inner w)) (end_frame i.writer.counts) → Appends (contents (inner from)) (contents (inner w)) (text (trace_of (format_of i) given))
   ended_written given i w h many more =
-      let t = trace_to i.clients given in
-      let all : text (trace_to i.clients given) ≡ text (trace_of given) = ap (λ (k : ℕ). text (trace_to k given)) (sym many ∙ ap length h.names) in
-      appends_more (contents (inner from)) (contents (inner i.writer.writer)) (contents (inner w)) (beginning t) (end_frame i.writer.counts) (text (trace_of given)) h.wrote.appends more
+      let t = trace_to (format_of i) i.clients given in
+      let all : text (trace_to (format_of i) i.clients given) ≡ text (trace_of (format_of i) given) = ap (λ (k : ℕ). text (trace_to (format_of i) k given)) (sym many ∙ ap length h.names) in
+      appends_more (contents (inner from)) (contents (inner i.writer.writer)) (contents (inner w)) (beginning t) (end_frame i.writer.counts) (text (trace_of (format_of i) given)) h.wrote.appends more
       (sym (end_is t i.writer.counts h.wrote.counts) ∙ all)
 
   -- adding `count` bytes to a cut text does not overflow 64 bits
@@ -169,14 +169,14 @@ module _ {W : Type 0} (contents : W → Option (List ℕ)) (from : Counted W) wh
   left_ended t old w e h unwritten failed = left_of e w (end_cut t old w e h unwritten) (λ q. subst (λ (n : ℕ). Failed n (failures w)) h.heard (failed q))
 
 -- a client without a turn has no room for a record
-pub too_many : (clients : ℕ) (given : List LineOp) (reported : LineOp) (counts : ACounts) (client : ℕ) → AreCountsOf (trace_to clients given) counts → client ≡ number_of (names_of given) reported.name → client < clients
+pub too_many : (format : Format) (clients : ℕ) (given : List LineOp) (reported : LineOp) (counts : ACounts) (client : ℕ) → AreCountsOf (trace_to format clients given) counts → client ≡ number_of (names_of given) reported.name → client < clients
     → (HasTurn counts client → ⊥) → length (names_of (given ++ reported ∷ [])) ≤ MAX_CLIENTS → IsTooMany given reported TooManyOperations
-too_many clients given reported counts client h number there full few =
-    let many : length (trace_to clients given).records ≡ length given = length-map given (record_of (names_of given)) in
+too_many format clients given reported counts client h number there full few =
+    let many : length (trace_to format clients given).records ≡ length given = length-map given (record_of (names_of given)) in
     let same : number_of (names_of (given ++ reported ∷ [])) reported.name ≡ client =
     ap (λ (ns : List (List ℕ)). number_of ns reported.name) (names_more given reported) ∙ number_own (names_of given) reported.name ∙ sym number in (
       few,
       λ room.
-          let own : turn client (trace_of given).records < MAX_CLIENT_OPS = subst (λ (k : ℕ). turn k (trace_of given).records < MAX_CLIENT_OPS) same room.0 in
+          let own : turn client (records_of given) < MAX_CLIENT_OPS = subst (λ (k : ℕ). turn k (records_of given) < MAX_CLIENT_OPS) same room.0 in
           full (omega (arith, h.clients, there), omega (arith, h.next client, own), omega (arith, h.total, many, room.1)),
     )

@@ -1,5 +1,5 @@
 -- A line has at most one operation, and a line that has one is not faulty.
-use Rattle.std.proofs.Common.{◌≡◌, ◌≢◌, ◌==◌, ◌^◌, ◌<◌, ℕ, Bool, false, List, [], ◌∷◌, ◌++◌, All, get_or, refl, sym, ap, subst, ◌∙◌, inl, inr, arith}
+use Rattle.std.proofs.Common.{◌≡◌, ◌==◌, ◌^◌, ◌<◌, ℕ, Bool, false, List, [], ◌∷◌, ◌++◌, All, get_or, refl, sym, ap, subst, ◌∙◌, inl, inr, arith}
 use Rattle.std.specs.Prelude.{Option, Some, None, codes, decimal}
 use Rattle.std.proofs.lemmas.Bool.{ne_eqb}
 use Rattle.std.proofs.lemmas.Fmt.{decimal_injective}
@@ -7,19 +7,22 @@ use Rattle.std.proofs.lemmas.List.{append_cancel_left}
 use Rattle.std.proofs.lemmas.List.Elements.{All-from_get_or}
 use Rattle.std.proofs.lemmas.List.Splits.{slice_split_at}
 use Rattle.std.specs.List.{slice_split}
-use Rattle.serde_json.specs.Data.{Data}
+use Rattle.serde_json.specs.Data.{Data, null}
 use Rattle.serde_json.specs.Find.{get}
 use Rattle.cops_types.specs.Texts.{version_text}
 use Rattle.cops_types.specs.Version.{IsVersion, clock_of, node_of}
+use Rattle.cops_types.specs.Format.{Fits}
+use Rattle.cops_types.specs.declared.format.Format.{Format}
+use Rattle.cops_types.specs.declared.format.Format.TheVariants.{One}
 use Rattle.cops_types.specs.declared.op.Op.{Op}
 use Rattle.cops_types.specs.declared.op.Op.TheVariants as op
 use Rattle.cops_json.specs.Json.{text_json}
-use Rattle.cops_import.specs.Line.{AsksKey, FoundNothing, IsAsked, IsFaulty, IsJson, IsNameJson, IsVersionJson, IsWrong, IsWrongIn, LacksValue, LacksVersion, LineGives, Gives, GivesName, GivesOp, GivesValue, GivesVersion, TextGives}
+use Rattle.cops_import.specs.Line.{AsksKey, FoundNothing, HasSeveral, IsAsked, IsFaulty, IsJson, IsNameJson, IsVersionJson, IsWrong, IsWrongIn, LacksFormat, LacksValue, LacksVersion, LineGives, Gives, GivesContent, GivesName, GivesOp, GivesValue, GivesVersion, TextGives}
 use Rattle.cops_import.specs.Lines.{GiveAfter, with_reported}
 use Rattle.cops_import.specs.declared.fault.JsonLineFault.{JsonLineFault}
-use Rattle.cops_import.specs.declared.fault.JsonLineFault.TheVariants.{NoJson, NoClient, NoOperation, BothOperations, BadKey, BadValue, BadVersion, TooManyClients, TooManyOperations}
+use Rattle.cops_import.specs.declared.fault.JsonLineFault.TheVariants.{NoJson, NoClient, NoOperation, BothOperations, BadKey, BadValue, BadVersion, NeedsFormat2, TooManyClients, TooManyOperations}
 use Rattle.cops_import.specs.declared.line.Kind.{Kind}
-use Rattle.cops_import.specs.declared.line.Kind.TheVariants.{Put, Get}
+use Rattle.cops_import.specs.declared.line.Kind.TheVariants.{Put, Get, Del}
 use Rattle.cops_import.specs.declared.line.LineOp.{LineOp}
 use Rattle.cops_json.proofs.Versions.{clock_fits, no_dot}
 
@@ -76,129 +79,190 @@ version_one d v w p q =
     let same : p.0 ≡ q.0 = cc in
     version_in v w q.0 p.3 q.3 (subst (IsVersionJson v) same p.2) q.2
 
-value_one : (d : Data) (a b : List ℕ) → GivesValue d a → GivesValue d b → a ≡ b
-value_one d a b p q = let e = p.0 in let f = q.0 in cc
+value_one : (format : Format) (d : Data) (a b : List ℕ) → GivesValue format d a → GivesValue format d b → a ≡ b
+value_one format d a b p q = let e = p.0 in let f = q.0 in cc
 
-something : (d : Data) (value : List ℕ) → GivesValue d value → FoundNothing d → ⊥
-something d value reported found = let e = reported.0 in let f = found.0 in cc
+not_null : (format : Format) (d : Data) (value : List ℕ) → GivesValue format d value → get (codes "value") d ≡ Some null → ⊥
+not_null format d value reported none = let e = reported.0 in cc
+
+-- a get with a content did not find nothing
+something : (format : Format) (d : Data) (content : Option (List ℕ)) → GivesContent format d Get content → FoundNothing d → ⊥
+something format d (Some value) reported found = not_null format d value reported found.0
+something format d None reported found = reported.1 found.1
 
 -- ---- at most one operation
 
 asked_one : (d : Data) (k l : Kind) (x y : Data) → IsAsked d k x → IsAsked d l y → (k ≡ l) × (x ≡ y)
 asked_one d Put Put x y p q = (refl, let e = p.0 in let f = q.0 in cc)
 asked_one d Put Get x y p q = let e = p.0 in let f = q.0 in absurd cc
+asked_one d Put Del x y p q = let e = p.0 in let f = q.0 in absurd cc
 asked_one d Get Put x y p q = let e = p.1 in let f = q.1 in absurd cc
 asked_one d Get Get x y p q = (refl, let e = p.1 in let f = q.1 in cc)
+asked_one d Get Del x y p q = let e = p.1 in let f = q.1 in absurd cc
+asked_one d Del Put x y p q = let e = p.2 in let f = q.2 in absurd cc
+asked_one d Del Get x y p q = let e = p.2 in let f = q.2 in absurd cc
+asked_one d Del Del x y p q = (refl, let e = p.2 in let f = q.2 in cc)
 
 key_one : (d : Data) (k l : Kind) (a b : List ℕ) → AsksKey d k a → AsksKey d l b → (k ≡ l) × (a ≡ b)
 key_one d k l a b p q = let one = asked_one d k l (text_json a) (text_json b) p.0 q.0 in let e = one.1 in (one.0, cc)
 
-op_one : (d : Data) (a b : Op) → GivesOp d a → GivesOp d b → a ≡ b
-op_one d (op.Put k x v) (op.Put l y w) p q =
-    let key : k ≡ l = (key_one d Put Put k l p.0 q.0).1 in
-    let value : x ≡ y = value_one d x y p.1 q.1 in
-    let version : v ≡ w = version_one d v w p.2 q.2 in
-    cc
-op_one d (op.Put k x v) (op.Got l y w) p q = let e : Put ≡ Get = (key_one d Put Get k l p.0 q.0).0 in absurd cc
-op_one d (op.Put k x v) (op.Missed l) p q = let e : Put ≡ Get = (key_one d Put Get k l p.0 q.0).0 in absurd cc
-op_one d (op.Got k x v) (op.Put l y w) p q = let e : Get ≡ Put = (key_one d Get Put k l p.0 q.0).0 in absurd cc
-op_one d (op.Got k x v) (op.Got l y w) p q =
-    let key : k ≡ l = (key_one d Get Get k l p.0 q.0).1 in
-    let value : x ≡ y = value_one d x y p.1 q.1 in
-    let version : v ≡ w = version_one d v w p.2 q.2 in
-    cc
-op_one d (op.Got k x v) (op.Missed l) p q = absurd (something d x p.1 q.1)
-op_one d (op.Missed k) (op.Put l y w) p q = let e : Get ≡ Put = (key_one d Get Put k l p.0 q.0).0 in absurd cc
-op_one d (op.Missed k) (op.Got l y w) p q = absurd (something d y q.1 p.1)
-op_one d (op.Del k v) b p q = absurd p
-op_one d (op.Gone k v) b p q = absurd p
-op_one d a (op.Del l w) p q = absurd q
-op_one d a (op.Gone l w) p q = absurd q
-op_one d (op.Missed k) (op.Missed l) p q = let key : k ≡ l = (key_one d Get Get k l p.0 q.0).1 in cc
+abbrev kind_of : Op → Kind
+kind_of (op.Put key value version) = Put
+kind_of (op.Del key version) = Del
+kind_of _ = Get
 
-reported_one : (d : Data) (a b : LineOp) → Gives d a → Gives d b → a ≡ b
-reported_one d a b p q =
+abbrev key_in : Op → List ℕ
+key_in (op.Put key value version) = key
+key_in (op.Del key version) = key
+key_in (op.Got key value version) = key
+key_in (op.Gone key version) = key
+key_in (op.Missed key) = key
+
+asks_of : (format : Format) (d : Data) (o : Op) → GivesOp format d o → AsksKey d (kind_of o) (key_in o)
+asks_of format d (op.Put key value version) reported = reported.0
+asks_of format d (op.Del key version) reported = reported.0
+asks_of format d (op.Got key value version) reported = reported.0
+asks_of format d (op.Gone key version) reported = reported.0
+asks_of format d (op.Missed key) reported = reported.0
+
+same_kind : (format : Format) (d : Data) (a b : Op) → GivesOp format d a → GivesOp format d b → kind_of a ≡ kind_of b
+same_kind format d a b p q = (key_one d (kind_of a) (kind_of b) (key_in a) (key_in b) (asks_of format d a p) (asks_of format d b q)).0
+
+op_one : (format : Format) (d : Data) (a b : Op) → GivesOp format d a → GivesOp format d b → a ≡ b
+op_one format d (op.Put k x v) (op.Put l y w) p q =
+    let key : k ≡ l = (key_one d Put Put k l p.0 q.0).1 in
+    let value : x ≡ y = value_one format d x y p.1 q.1 in
+    let version : v ≡ w = version_one d v w p.2 q.2 in
+    cc
+op_one format d (op.Del k v) (op.Del l w) p q =
+    let key : k ≡ l = (key_one d Del Del k l p.0 q.0).1 in
+    let version : v ≡ w = version_one d v w p.2 q.2 in
+    cc
+op_one format d (op.Got k x v) (op.Got l y w) p q =
+    let key : k ≡ l = (key_one d Get Get k l p.0 q.0).1 in
+    let value : x ≡ y = value_one format d x y p.1 q.1 in
+    let version : v ≡ w = version_one d v w p.2 q.2 in
+    cc
+op_one format d (op.Gone k v) (op.Gone l w) p q =
+    let key : k ≡ l = (key_one d Get Get k l p.0 q.0).1 in
+    let version : v ≡ w = version_one d v w p.2 q.2 in
+    cc
+op_one format d (op.Missed k) (op.Missed l) p q = let key : k ≡ l = (key_one d Get Get k l p.0 q.0).1 in cc
+op_one format d (op.Got k x v) (op.Gone l w) p q = absurd (not_null format d x p.1 q.1.0)
+op_one format d (op.Gone k v) (op.Got l y w) p q = absurd (not_null format d y q.1 p.1.0)
+op_one format d (op.Got k x v) (op.Missed l) p q = absurd (something format d (Some x) p.1 q.1)
+op_one format d (op.Gone k v) (op.Missed l) p q = absurd (something format d None p.1 q.1)
+op_one format d (op.Missed k) (op.Got l y w) p q = absurd (something format d (Some y) q.1 p.1)
+op_one format d (op.Missed k) (op.Gone l w) p q = absurd (something format d None q.1 p.1)
+op_one format d (op.Put k x v) b p q = let e = same_kind format d (op.Put k x v) b p q in absurd cc
+op_one format d (op.Del k v) b p q = let e = same_kind format d (op.Del k v) b p q in absurd cc
+op_one format d a (op.Put l y w) p q = let e = same_kind format d a (op.Put l y w) p q in absurd cc
+op_one format d a (op.Del l w) p q = let e = same_kind format d a (op.Del l w) p q in absurd cc
+
+reported_one : (format : Format) (d : Data) (a b : LineOp) → Gives format d a → Gives format d b → a ≡ b
+reported_one format d a b p q =
     let name : a.name ≡ b.name = name_one d a.name b.name p.0 q.0 in
-    let ops : a.op ≡ b.op = op_one d a.op b.op p.1 q.1 in
+    let ops : a.op ≡ b.op = op_one format d a.op b.op p.1 q.1 in
     λ i. record { name = name i; op = ops i }
 
 json_one : (line : List ℕ) (d e : Data) → IsJson line d → IsJson line e → d ≡ e
 json_one line d e p q = let f = p.1 in let g = q.1 in cc
 
 -- two operations of one line are equal
-line_one : (line : List ℕ) (a b : Option LineOp) → LineGives line a → LineGives line b → a ≡ b
-line_one line None None p q = refl
-line_one line None (Some b) p q = absurd (q.0 p)
-line_one line (Some a) None p q = absurd (p.0 q)
-line_one line (Some a) (Some b) p q =
+line_one : (format : Format) (line : List ℕ) (a b : Option LineOp) → LineGives format line a → LineGives format line b → a ≡ b
+line_one format line None None p q = refl
+line_one format line None (Some b) p q = absurd (q.0 p)
+line_one format line (Some a) None p q = absurd (p.0 q)
+line_one format line (Some a) (Some b) p q =
     let same = json_one line p.1.0 q.1.0 p.1.1 q.1.1 in
-    ap Some (reported_one q.1.0 a b (subst (λ (d : Data). Gives d a) same p.1.2) q.1.2)
+    ap Some (reported_one format q.1.0 a b (subst (λ (d : Data). Gives format d a) same p.1.2) q.1.2)
 
-pub lines_one : (earlier : List LineOp) (ls : List (List ℕ)) (a b : List LineOp) → GiveAfter earlier ls a → GiveAfter earlier ls b → a ≡ b
-lines_one earlier [] a b p q = p ∙ sym q
-lines_one earlier (line ∷ ls) a b p q =
-    let same = line_one line p.0 q.0 p.1 q.1 in
-    lines_one (with_reported earlier q.0) ls a b (subst (λ (t : Option LineOp). GiveAfter (with_reported earlier t) ls a) same p.2) q.2
+pub lines_one : (format : Format) (earlier : List LineOp) (ls : List (List ℕ)) (a b : List LineOp) → GiveAfter format earlier ls a → GiveAfter format earlier ls b → a ≡ b
+lines_one format earlier [] a b p q = p ∙ sym q
+lines_one format earlier (line ∷ ls) a b p q =
+    let same = line_one format line p.0 q.0 p.1 q.1 in
+    lines_one format (with_reported earlier q.0) ls a b (subst (λ (t : Option LineOp). GiveAfter format (with_reported earlier t) ls a) same p.2) q.2
 
 -- ---- a line with an operation is not faulty
 
-op_kind : (d : Data) (o : Op) → GivesOp d o → (kind : Kind) × (key : List ℕ) × AsksKey d kind key
-op_kind d (op.Put key value version) reported = (Put, key, reported.0)
-op_kind d (op.Got key value version) reported = (Get, key, reported.0)
-op_kind d (op.Missed key) reported = (Get, key, reported.0)
-op_kind d _ reported = absurd reported
+lacks_value : (format : Format) (d : Data) (o : Op) → GivesOp format d o → LacksValue format d (kind_of o) → ⊥
+lacks_value format d (op.Put k x v) reported lacks = lacks.0 (Some x) reported.1
+lacks_value format d (op.Del k v) reported lacks = lacks.0 None reported.1
+lacks_value format d (op.Got k x v) reported lacks = lacks.0 (Some x) reported.1
+lacks_value format d (op.Gone k v) reported lacks = lacks.0 None reported.1
+lacks_value format d (op.Missed k) reported lacks = lacks.1 refl reported.1
 
-lacks_value : (d : Data) (o : Op) (kind : Kind) (key : List ℕ) → GivesOp d o → AsksKey d kind key → LacksValue d kind → ⊥
-lacks_value d (op.Put k x v) Put key reported asks lacks = lacks x reported.1
-lacks_value d (op.Put k x v) Get key reported asks lacks = let e : Put ≡ Get = (key_one d Put Get k key reported.0 asks).0 in absurd cc
-lacks_value d (op.Got k x v) Put key reported asks lacks = lacks x reported.1
-lacks_value d (op.Got k x v) Get key reported asks lacks = lacks.0 x reported.1
-lacks_value d (op.Missed k) Put key reported asks lacks = let e : Get ≡ Put = (key_one d Get Put k key reported.0 asks).0 in absurd cc
-lacks_value d (op.Missed k) Get key reported asks lacks = lacks.1 reported.1
-lacks_value d _ kind key reported asks lacks = absurd reported
+lacks_version : (format : Format) (d : Data) (o : Op) → GivesOp format d o → LacksVersion format d (kind_of o) → ⊥
+lacks_version format d (op.Put k x v) reported lacks = lacks.2 v reported.2
+lacks_version format d (op.Del k v) reported lacks = lacks.2 v reported.2
+lacks_version format d (op.Got k x v) reported lacks = lacks.2 v reported.2
+lacks_version format d (op.Gone k v) reported lacks = lacks.2 v reported.2
+lacks_version format d (op.Missed k) reported lacks = something format d lacks.0 lacks.1 reported.1
 
-lacks_version : (d : Data) (o : Op) → GivesOp d o → LacksVersion d → ⊥
-lacks_version d (op.Put k x v) reported lacks = lacks.2 v reported.2
-lacks_version d (op.Got k x v) reported lacks = lacks.2 v reported.2
-lacks_version d (op.Missed k) reported lacks = something d lacks.0 lacks.1 reported.1
-lacks_version d _ reported lacks = absurd reported
+-- format 1 has no deletions
+no_deletion : (format : Format) → Fits format None → format ≡ One → ⊥
+no_deletion format fits is = subst (λ (f : Format). Fits f None) is fits
 
-neither : (d : Data) (kind : Kind) (x : Data) → IsAsked d kind x → get (codes "put") d ≡ None → get (codes "get") d ≡ None → ⊥
-neither d Put x asked p q = let e = asked.0 in cc
-neither d Get x asked p q = let e = asked.1 in cc
+lacks_format : (format : Format) (d : Data) (o : Op) → GivesOp format d o → LacksFormat format d (kind_of o) → ⊥
+lacks_format format d (op.Put k x v) reported lacks = lacks.1
+lacks_format format d (op.Del k v) reported lacks = no_deletion format reported.3 lacks.3
+lacks_format format d (op.Got k x v) reported lacks = not_null format d x reported.1 lacks.1.0
+lacks_format format d (op.Gone k v) reported lacks = no_deletion format reported.3 lacks.3
+lacks_format format d (op.Missed k) reported lacks = something format d None lacks.1 reported.1
 
-both : (d : Data) (kind : Kind) (x : Data) → IsAsked d kind x → get (codes "put") d ≢ None → get (codes "get") d ≢ None → ⊥
-both d Put x asked p q = q asked.1
-both d Get x asked p q = p asked.0
+neither : (d : Data) (kind : Kind) (x : Data) → IsAsked d kind x → get (codes "put") d ≡ None → get (codes "get") d ≡ None → get (codes "del") d ≡ None → ⊥
+neither d Put x asked p q r = let e = asked.0 in cc
+neither d Get x asked p q r = let e = asked.1 in cc
+neither d Del x asked p q r = let e = asked.2 in cc
 
-not_wrong : (d : Data) (reported : LineOp) (fault : JsonLineFault) → Gives d reported → IsWrong d fault → ⊥
-not_wrong d reported NoJson reports wrong = wrong
-not_wrong d reported NoClient reports wrong = wrong reported.name reports.0
-not_wrong d reported NoOperation reports wrong = let k = op_kind d reported.op reports.1 in neither d k.0 (text_json k.1) k.2.0 wrong.1 wrong.2
-not_wrong d reported BothOperations reports wrong = let k = op_kind d reported.op reports.1 in both d k.0 (text_json k.1) k.2.0 wrong.1 wrong.2
-not_wrong d reported BadKey reports wrong =
-    let k = op_kind d reported.op reports.1 in
+several : (d : Data) (kind : Kind) (x : Data) → IsAsked d kind x → HasSeveral d → ⊥
+several d Put x asked (inl h) = h.1 asked.1
+several d Put x asked (inr (inl h)) = h.1 asked.2
+several d Put x asked (inr (inr h)) = h.0 asked.1
+several d Get x asked (inl h) = h.0 asked.0
+several d Get x asked (inr (inl h)) = h.0 asked.0
+several d Get x asked (inr (inr h)) = h.1 asked.2
+several d Del x asked (inl h) = h.0 asked.0
+several d Del x asked (inr (inl h)) = h.0 asked.0
+several d Del x asked (inr (inr h)) = h.0 asked.1
+
+-- the kind of an object's operation
+its_kind : (format : Format) (d : Data) (reported : LineOp) (kind : Kind) (key : List ℕ) → Gives format d reported → AsksKey d kind key → kind ≡ kind_of reported.op
+its_kind format d reported kind key reports asks = (key_one d kind (kind_of reported.op) key (key_in reported.op) asks (asks_of format d reported.op reports.1)).0
+
+not_wrong : (format : Format) (d : Data) (reported : LineOp) (fault : JsonLineFault) → Gives format d reported → IsWrong format d fault → ⊥
+not_wrong format d reported NoJson reports wrong = wrong
+not_wrong format d reported NoClient reports wrong = wrong reported.name reports.0
+not_wrong format d reported NoOperation reports wrong = neither d (kind_of reported.op) (text_json (key_in reported.op)) (asks_of format d reported.op reports.1).0 wrong.1 wrong.2 wrong.3
+not_wrong format d reported BothOperations reports wrong = several d (kind_of reported.op) (text_json (key_in reported.op)) (asks_of format d reported.op reports.1).0 wrong.1
+not_wrong format d reported BadKey reports wrong =
+    let asks = asks_of format d reported.op reports.1 in
     let bad = wrong.1 in
-    bad.3 k.1 k.2.1 (sym (asked_one d k.0 bad.0 (text_json k.1) bad.1 k.2.0 bad.2).1)
-not_wrong d reported BadValue reports wrong = lacks_value d reported.op wrong.1.0 wrong.1.1 reports.1 wrong.1.2 wrong.1.3
-not_wrong d reported BadVersion reports wrong = lacks_version d reported.op reports.1 wrong.1.3
-not_wrong d reported TooManyClients reports wrong = wrong
-not_wrong d reported TooManyOperations reports wrong = wrong
+    bad.3 (key_in reported.op) asks.1 (sym (asked_one d (kind_of reported.op) bad.0 (text_json (key_in reported.op)) bad.1 asks.0 bad.2).1)
+not_wrong format d reported BadValue reports wrong =
+    lacks_value format d reported.op reports.1 (subst (LacksValue format d) (its_kind format d reported wrong.1.0 wrong.1.1 reports wrong.1.2) wrong.1.3)
+not_wrong format d reported BadVersion reports wrong =
+    lacks_version format d reported.op reports.1 (subst (LacksVersion format d) (its_kind format d reported wrong.1.0 wrong.1.1 reports wrong.1.2) wrong.1.3)
+not_wrong format d reported NeedsFormat2 reports wrong =
+    lacks_format format d reported.op reports.1 (subst (LacksFormat format d) (its_kind format d reported wrong.1.0 wrong.1.1 reports wrong.1.2) wrong.1.3)
+not_wrong format d reported TooManyClients reports wrong = wrong
+not_wrong format d reported TooManyOperations reports wrong = wrong
 
-wrong_text : (line : List ℕ) (reported : LineOp) (fault : JsonLineFault) → TextGives line reported → (d : Data) × IsJson line d × IsWrong d fault → ⊥
-wrong_text line reported fault reports wrong = not_wrong wrong.0 reported fault (subst (λ (d : Data). Gives d reported) (json_one line reports.0 wrong.0 reports.1 wrong.1) reports.2) wrong.2
+wrong_text : (format : Format) (line : List ℕ) (reported : LineOp) (fault : JsonLineFault) → TextGives format line reported → (d : Data) × IsJson line d × IsWrong format d fault → ⊥
+wrong_text format line reported fault reports wrong = not_wrong format wrong.0 reported fault (subst (λ (d : Data). Gives format d reported) (json_one line reports.0 wrong.0 reports.1 wrong.1) reports.2) wrong.2
 
-wrong_line : (line : List ℕ) (reported : LineOp) (fault : JsonLineFault) → TextGives line reported → IsWrongIn line fault → ⊥
-wrong_line line reported NoJson reports wrong = wrong reports.0 reports.1
-wrong_line line reported NoClient reports wrong = wrong_text line reported NoClient reports wrong
-wrong_line line reported NoOperation reports wrong = wrong_text line reported NoOperation reports wrong
-wrong_line line reported BothOperations reports wrong = wrong_text line reported BothOperations reports wrong
-wrong_line line reported BadKey reports wrong = wrong_text line reported BadKey reports wrong
-wrong_line line reported BadValue reports wrong = wrong_text line reported BadValue reports wrong
-wrong_line line reported BadVersion reports wrong = wrong_text line reported BadVersion reports wrong
-wrong_line line reported TooManyClients reports wrong = wrong_text line reported TooManyClients reports wrong
-wrong_line line reported TooManyOperations reports wrong = wrong_text line reported TooManyOperations reports wrong
+wrong_line : (format : Format) (line : List ℕ) (reported : LineOp) (fault : JsonLineFault) → TextGives format line reported → IsWrongIn format line fault → ⊥
+wrong_line format line reported NoJson reports wrong = wrong reports.0 reports.1
+wrong_line format line reported NoClient reports wrong = wrong_text format line reported NoClient reports wrong
+wrong_line format line reported NoOperation reports wrong = wrong_text format line reported NoOperation reports wrong
+wrong_line format line reported BothOperations reports wrong = wrong_text format line reported BothOperations reports wrong
+wrong_line format line reported BadKey reports wrong = wrong_text format line reported BadKey reports wrong
+wrong_line format line reported BadValue reports wrong = wrong_text format line reported BadValue reports wrong
+wrong_line format line reported BadVersion reports wrong = wrong_text format line reported BadVersion reports wrong
+wrong_line format line reported NeedsFormat2 reports wrong = wrong_text format line reported NeedsFormat2 reports wrong
+wrong_line format line reported TooManyClients reports wrong = wrong_text format line reported TooManyClients reports wrong
+wrong_line format line reported TooManyOperations reports wrong = wrong_text format line reported TooManyOperations reports wrong
 
-pub not_faulty : (line : List ℕ) (reported : Option LineOp) (fault : JsonLineFault) → LineGives line reported → IsFaulty line fault → ⊥
-not_faulty line None fault reports faulty = faulty.0 reports
-not_faulty line (Some reported) fault reports faulty = wrong_line line reported fault reports.1 faulty.1
+pub not_faulty : (format : Format) (line : List ℕ) (reported : Option LineOp) (fault : JsonLineFault) → LineGives format line reported → IsFaulty format line fault → ⊥
+not_faulty format line None fault reports faulty = faulty.0 reports
+not_faulty format line (Some reported) fault reports faulty = wrong_line format line reported fault reports.1 faulty.1

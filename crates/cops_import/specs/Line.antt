@@ -1,21 +1,22 @@
 -- The operation of a line.
 use Rattle.std.specs.Prelude.{◌≡◌, ◌≢◌, ◌⊎◌, ◌==◌, ◌||◌, ℕ, Bool, List, codes, decimal, Option, None, Some, IsUtf8}
-use Rattle.std.specs.List.{AllPass}
+use Rattle.std.specs.List.{AllPass, list_all}
 use Rattle.serde_json.specs.Data.{Data, null, array, item, no_items}
 use Rattle.serde_json.specs.Read.{read}
 use Rattle.serde_json.specs.Find.{get}
 use Rattle.cops_json.specs.Json.{number_json, text_json}
 use Rattle.cops_types.specs.KeyValue.{IsKey}
 use Rattle.cops_types.specs.Format.{Fits}
+use Rattle.cops_types.specs.declared.format.Format.{Format}
 use Rattle.cops_types.specs.declared.format.Format.TheVariants.{One}
 use Rattle.cops_types.specs.Version.{IsVersion, clock_of, node_of}
 use Rattle.cops_types.specs.Texts.{version_text}
 use Rattle.cops_types.specs.declared.op.Op.{Op}
 use Rattle.cops_types.specs.declared.op.Op.TheVariants as op
 use Rattle.cops_import.specs.declared.fault.JsonLineFault.{JsonLineFault}
-use Rattle.cops_import.specs.declared.fault.JsonLineFault.TheVariants.{NoJson, NoClient, NoOperation, BothOperations, BadKey, BadValue, BadVersion}
+use Rattle.cops_import.specs.declared.fault.JsonLineFault.TheVariants.{NoJson, NoClient, NoOperation, BothOperations, BadKey, BadValue, BadVersion, NeedsFormat2}
 use Rattle.cops_import.specs.declared.line.Kind.{Kind}
-use Rattle.cops_import.specs.declared.line.Kind.TheVariants.{Put, Get}
+use Rattle.cops_import.specs.declared.line.Kind.TheVariants.{Put, Get, Del}
 use Rattle.cops_import.specs.declared.line.LineOp.{LineOp}
 
 -- ---- a line's bytes
@@ -27,6 +28,10 @@ is_blank_byte b = b == 32 || b == 9 || b == 13
 -- the line has nothing but blank bytes
 abbrev pub IsBlank : List ℕ → Type 0
 IsBlank line = AllPass is_blank_byte line
+
+-- whether it has nothing else
+abbrev pub is_blank_line : List ℕ → Bool
+is_blank_line line = list_all is_blank_byte line
 
 -- the line is a JSON text of this value
 abbrev pub IsJson : List ℕ → Data → Type 0
@@ -46,15 +51,16 @@ GivesName d name = (at : Data) × (get (codes "client") d ≡ Some at) × IsName
 
 -- the object has one operation, of this kind, and this is the value that holds its key
 abbrev pub IsAsked : Data → Kind → Data → Type 0
-IsAsked d Put at = (get (codes "put") d ≡ Some at) × (get (codes "get") d ≡ None)
-IsAsked d Get at = (get (codes "put") d ≡ None) × (get (codes "get") d ≡ Some at)
+IsAsked d Put at = (get (codes "put") d ≡ Some at) × (get (codes "get") d ≡ None) × (get (codes "del") d ≡ None)
+IsAsked d Get at = (get (codes "put") d ≡ None) × (get (codes "get") d ≡ Some at) × (get (codes "del") d ≡ None)
+IsAsked d Del at = (get (codes "put") d ≡ None) × (get (codes "get") d ≡ None) × (get (codes "del") d ≡ Some at)
 
 -- `IsAsked` with a legal key
 abbrev pub AsksKey : Data → Kind → List ℕ → Type 0
 AsksKey d kind key = IsAsked d kind (text_json key) × IsKey key
 
-abbrev pub GivesValue : Data → List ℕ → Type 0
-GivesValue d value = (get (codes "value") d ≡ Some (text_json value)) × Fits One (Some value)
+abbrev pub GivesValue : Format → Data → List ℕ → Type 0
+GivesValue format d value = (get (codes "value") d ≡ Some (text_json value)) × Fits format (Some value)
 
 -- a version: the text of its clock and node, its clock alone where its node is 0, or both numbers
 abbrev pub IsVersionJson : ℕ → Data → Type 0
@@ -68,65 +74,88 @@ GivesVersion d v = (at : Data) × (get (codes "version") d ≡ Some at) × IsVer
 abbrev pub IsNothing : Option Data → Type 0
 IsNothing at = (at ≡ None) ⊎ (at ≡ Some null)
 
--- the value is null, and there is no version
+-- the value is null, and there is no version: a get found nothing
 abbrev pub FoundNothing : Data → Type 0
 FoundNothing d = (get (codes "value") d ≡ Some null) × IsNothing (get (codes "version") d)
 
+-- the value is null, and there is a version: a get found a deletion
+abbrev pub FoundDeletion : Data → Type 0
+FoundDeletion d = (get (codes "value") d ≡ Some null) × (IsNothing (get (codes "version") d) → ⊥)
+
+-- what an operation of this kind put or got: a value, or none where it is a deletion or a get that found one
+abbrev pub GivesContent : Format → Data → Kind → Option (List ℕ) → Type 0
+GivesContent format d Put (Some value) = GivesValue format d value
+GivesContent format d Get (Some value) = GivesValue format d value
+GivesContent format d Get None = FoundDeletion d
+GivesContent format d Del None = IsNothing (get (codes "value") d)
+GivesContent format d _ _ = ⊥
+
 -- ---- the operation
 
-abbrev pub GivesOp : Data → Op → Type 0
-GivesOp d (op.Put key value version) = AsksKey d Put key × GivesValue d value × GivesVersion d version
-GivesOp d (op.Got key value version) = AsksKey d Get key × GivesValue d value × GivesVersion d version
-GivesOp d (op.Missed key) = AsksKey d Get key × FoundNothing d
-GivesOp d _ = ⊥
+abbrev pub GivesOp : Format → Data → Op → Type 0
+GivesOp format d (op.Put key value version) = AsksKey d Put key × GivesContent format d Put (Some value) × GivesVersion d version
+GivesOp format d (op.Del key version) = AsksKey d Del key × GivesContent format d Del None × GivesVersion d version × Fits format None
+GivesOp format d (op.Got key value version) = AsksKey d Get key × GivesContent format d Get (Some value) × GivesVersion d version
+GivesOp format d (op.Gone key version) = AsksKey d Get key × GivesContent format d Get None × GivesVersion d version × Fits format None
+GivesOp format d (op.Missed key) = AsksKey d Get key × FoundNothing d
 
 -- the object has this client's name and this operation
-abbrev pub Gives : Data → LineOp → Type 0
-Gives d reported = GivesName d reported.name × GivesOp d reported.op
+abbrev pub Gives : Format → Data → LineOp → Type 0
+Gives format d reported = GivesName d reported.name × GivesOp format d reported.op
 
 -- the line is the JSON text of such an object
-abbrev pub TextGives : List ℕ → LineOp → Type 0
-TextGives line reported = (d : Data) × IsJson line d × Gives d reported
+abbrev pub TextGives : Format → List ℕ → LineOp → Type 0
+TextGives format line reported = (d : Data) × IsJson line d × Gives format d reported
 
 -- a blank line has no operation, and any other line has that of its object
-abbrev pub LineGives : List ℕ → Option LineOp → Type 0
-LineGives line None = IsBlank line
-LineGives line (Some reported) = (IsBlank line → ⊥) × TextGives line reported
+abbrev pub LineGives : Format → List ℕ → Option LineOp → Type 0
+LineGives format line None = IsBlank line
+LineGives format line (Some reported) = (IsBlank line → ⊥) × TextGives format line reported
 
 -- ---- what is wrong with a line
 
 abbrev pub HasName : Data → Type 0
 HasName d = (name : List ℕ) × GivesName d name
 
-abbrev pub HasNoValue : Data → Type 0
-HasNoValue d = (value : List ℕ) → GivesValue d value → ⊥
+-- more than one of the three members
+abbrev pub HasSeveral : Data → Type 0
+HasSeveral d =
+    ((get (codes "put") d ≢ None) × (get (codes "get") d ≢ None)) ⊎ ((get (codes "put") d ≢ None) × (get (codes "del") d ≢ None))
+    ⊎ ((get (codes "get") d ≢ None) × (get (codes "del") d ≢ None))
+
+abbrev pub HasNoContent : Format → Data → Kind → Type 0
+HasNoContent format d kind = (content : Option (List ℕ)) → GivesContent format d kind content → ⊥
+
+-- the value is wrong, and the operation is no get that found nothing
+abbrev pub LacksValue : Format → Data → Kind → Type 0
+LacksValue format d kind = HasNoContent format d kind × (kind ≡ Get → FoundNothing d → ⊥)
 
 abbrev pub HasNoVersion : Data → Type 0
 HasNoVersion d = (v : ℕ) → GivesVersion d v → ⊥
 
--- the value is missing: a put needs one, and so does a get, unless it found nothing
-abbrev pub LacksValue : Data → Kind → Type 0
-LacksValue d Put = HasNoValue d
-LacksValue d Get = HasNoValue d × (FoundNothing d → ⊥)
+-- the version is missing, which any content needs
+abbrev pub LacksVersion : Format → Data → Kind → Type 0
+LacksVersion format d kind = (content : Option (List ℕ)) × GivesContent format d kind content × HasNoVersion d
 
--- the version is missing, which a value needs
-abbrev pub LacksVersion : Data → Type 0
-LacksVersion d = (value : List ℕ) × GivesValue d value × HasNoVersion d
+-- the operation is a deletion or a get that found one, which format 1 does not have
+abbrev pub LacksFormat : Format → Data → Kind → Type 0
+LacksFormat format d kind = (version : ℕ) × GivesContent format d kind None × GivesVersion d version × (format ≡ One)
 
 -- what is wrong with an object whose members checked before are right
-abbrev pub IsWrong : Data → JsonLineFault → Type 0
-IsWrong d NoClient = (name : List ℕ) → GivesName d name → ⊥
-IsWrong d NoOperation = HasName d × (get (codes "put") d ≡ None) × (get (codes "get") d ≡ None)
-IsWrong d BothOperations = HasName d × (get (codes "put") d ≢ None) × (get (codes "get") d ≢ None)
-IsWrong d BadKey = HasName d × ((kind : Kind) × (at : Data) × IsAsked d kind at × ((key : List ℕ) → IsKey key → at ≢ text_json key))
-IsWrong d BadValue = HasName d × ((kind : Kind) × (key : List ℕ) × AsksKey d kind key × LacksValue d kind)
-IsWrong d BadVersion = HasName d × ((kind : Kind) × (key : List ℕ) × AsksKey d kind key × LacksVersion d)
-IsWrong d _ = ⊥
+abbrev pub IsWrong : Format → Data → JsonLineFault → Type 0
+IsWrong format d NoClient = (name : List ℕ) → GivesName d name → ⊥
+IsWrong format d NoOperation = HasName d × (get (codes "put") d ≡ None) × (get (codes "get") d ≡ None) × (get (codes "del") d ≡ None)
+IsWrong format d BothOperations = HasName d × HasSeveral d
+IsWrong format d BadKey = HasName d × ((kind : Kind) × (at : Data) × IsAsked d kind at × ((key : List ℕ) → IsKey key → at ≢ text_json key))
+IsWrong format d BadValue = HasName d × ((kind : Kind) × (key : List ℕ) × AsksKey d kind key × LacksValue format d kind)
+IsWrong format d BadVersion = HasName d × ((kind : Kind) × (key : List ℕ) × AsksKey d kind key × LacksVersion format d kind)
+IsWrong format d NeedsFormat2 = HasName d × ((kind : Kind) × (key : List ℕ) × AsksKey d kind key × LacksFormat format d kind)
+IsWrong format d _ = ⊥
 
 -- what is wrong with a line that is not blank
-abbrev pub IsWrongIn : List ℕ → JsonLineFault → Type 0
-IsWrongIn line NoJson = (d : Data) → IsJson line d → ⊥
-IsWrongIn line fault = (d : Data) × IsJson line d × IsWrong d fault
+abbrev pub IsWrongIn : Format → List ℕ → JsonLineFault → Type 0
+IsWrongIn format line NoJson = (d : Data) → IsJson line d → ⊥
+IsWrongIn format line fault = (d : Data) × IsJson line d × IsWrong format d fault
 
-abbrev pub IsFaulty : List ℕ → JsonLineFault → Type 0
-IsFaulty line fault = (IsBlank line → ⊥) × IsWrongIn line fault
+abbrev pub IsFaulty : Format → List ℕ → JsonLineFault → Type 0
+IsFaulty format line fault = (IsBlank line → ⊥) × IsWrongIn format line fault

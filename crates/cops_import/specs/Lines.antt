@@ -2,7 +2,7 @@
 use Rattle.std.specs.Prelude.{◌≡◌, ◌==◌, ℕ, false, List, [], ◌∷◌, ◌++◌, Option, None, Some, length, map, fold}
 use Rattle.std.specs.List.{All, slice_split}
 use Rattle.cops_types.specs.Operations.{operation_of}
-use Rattle.cops_types.specs.declared.format.Format.TheVariants.{One}
+use Rattle.cops_types.specs.declared.format.Format.{Format}
 use Rattle.cops_trace.specs.Text.{ARecord, ATrace}
 use Rattle.cops_import.specs.Line.{LineGives}
 use Rattle.cops_import.specs.Names.{number_of, with_name}
@@ -22,13 +22,14 @@ with_reported given None = given
 with_reported given (Some reported) = given ++ reported ∷ []
 
 -- `given` are the operations `earlier` and then those of the lines, at most one for each line
-abbrev pub GiveAfter : List LineOp → List (List ℕ) → List LineOp → Type 0
-GiveAfter earlier [] given = given ≡ earlier
-GiveAfter earlier (line ∷ lines) given = (reported : Option LineOp) × LineGives line reported × GiveAfter (with_reported earlier reported) lines given
+abbrev pub GiveAfter : Format → List LineOp → List (List ℕ) → List LineOp → Type 0
+GiveAfter format earlier [] given = given ≡ earlier
+GiveAfter format earlier (line ∷ lines) given =
+    (reported : Option LineOp) × LineGives format line reported × GiveAfter format (with_reported earlier reported) lines given
 
 -- `given` are the operations of the lines, in their order
-abbrev pub LinesGive : List (List ℕ) → List LineOp → Type 0
-LinesGive lines given = GiveAfter [] lines given
+abbrev pub LinesGive : Format → List (List ℕ) → List LineOp → Type 0
+LinesGive format lines given = GiveAfter format [] lines given
 
 -- the names of the clients in the order in which they first appear
 abbrev pub names_of : List LineOp → List (List ℕ)
@@ -38,6 +39,10 @@ names_of given = fold (λ names reported. with_name names reported.name) [] give
 abbrev pub record_of : List (List ℕ) → LineOp → ARecord
 record_of names reported = record { client = number_of names reported.name; op = operation_of reported.op }
 
--- the trace of format 1 with a record for each operation, in their order, and as many clients as there are names
-abbrev pub trace_of : List LineOp → ATrace
-trace_of given = record { format = One; clients = length (names_of given); records = map (record_of (names_of given)) given }
+-- a record for each operation, in their order
+abbrev pub records_of : List LineOp → List ARecord
+records_of given = map (record_of (names_of given)) given
+
+-- the trace of these records, with as many clients as there are names
+abbrev pub trace_of : Format → List LineOp → ATrace
+trace_of format given = record { format = format; clients = length (names_of given); records = records_of given }

@@ -3,6 +3,7 @@ use Rattle.std.specs.Prelude.{◌≡◌, ◌≢◌, ℕ, ◌<◌, List, [], ◌�
 use Rattle.std.specs.Io.KnownBytes.{Appends}
 use Rattle.cops_types.specs.Counted.{failures, inner}
 use Rattle.cops_types.specs.declared.counted.Counted.{Counted}
+use Rattle.cops_types.specs.declared.format.Format.{Format}
 use Rattle.cops_trace.specs.Counts.{AreCountsOf}
 use Rattle.cops_trace.specs.Text.{ATrace, IsTrace, beginning, text}
 use Rattle.cops_trace.specs.declared.writer.TraceWriter.{TraceWriter}
@@ -15,9 +16,13 @@ use Rattle.cops_import.specs.declared.imported.Imported.{Imported}
 use Rattle.cops_import.specs.declared.importer.Importer.{Importer}
 use Rattle.cops_import.specs.declared.line.LineOp.{LineOp}
 
+-- the format of the trace that is written
+abbrev pub format_of : {W : Type 0} → Importer W → Format
+format_of i = i.writer.counts.format
+
 -- the trace of the operations so far, with the number of clients that the caller said
-abbrev pub trace_to : ℕ → List LineOp → ATrace
-trace_to clients given = record (trace_of given) { clients = clients }
+abbrev pub trace_to : Format → ℕ → List LineOp → ATrace
+trace_to format clients given = record (trace_of format given) { clients = clients }
 
 -- the head and the records of a trace were written, and the writer did not fail
 pub record HasWritten {W : Type 0} (contents : W → Option (List ℕ)) (from : Counted W) (t : ATrace) (w : TraceWriter W) : Type 0 where
@@ -31,28 +36,28 @@ pub record HasWritten {W : Type 0} (contents : W → Option (List ℕ)) (from : 
 pub record HasTaken {W : Type 0} (contents : W → Option (List ℕ)) (from : Counted W) (given : List LineOp) (i : Importer W) : Type 0 where
   pub names : i.names ≡ names_of given
   pub operations : i.operations ≡ length given
-  pub wrote : HasWritten contents from (trace_to i.clients given) i.writer
+  pub wrote : HasWritten contents from (trace_to (format_of i) i.clients given) i.writer
 
 -- the importer took the line's operation, if it has one
-abbrev pub TakesLine : {W : Type 0} → (W → Option (List ℕ)) → Counted W → List LineOp → List ℕ → Importer W → Type 0
-TakesLine contents from given line i = (reported : Option LineOp) × LineGives line reported × HasTaken contents from (with_reported given reported) i
+abbrev pub TakesLine : {W : Type 0} → (W → Option (List ℕ)) → Counted W → Format → List LineOp → List ℕ → Importer W → Type 0
+TakesLine contents from format given line i = (reported : Option LineOp) × LineGives format line reported × HasTaken contents from (with_reported given reported) i
 
 -- the importer took `fed`: all lines that ended, and the last line as far as it came, which it keeps
 pub record IsUnderway {W : Type 0} (contents : W → Option (List ℕ)) (from : Counted W) (fed : List ℕ) (i : Importer W) : Type 0 where
   pub ended : List (List ℕ)
   pub given : List LineOp
-  pub report : LinesGive ended given
+  pub report : LinesGive (format_of i) ended given
   pub counted : i.ended ≡ length ended
   pub split : (more : List ℕ) → lines (fed ++ more) ≡ ended ++ lines (i.line.items ++ more)
   pub within : IsWithin i.line.items
   pub taken : HasTaken contents from given i
 
 -- the end record was written after the records of these operations
-pub record HasEnded {W : Type 0} (contents : W → Option (List ℕ)) (from : Counted W) (given : List LineOp) (done : Imported W) : Type 0 where
+pub record HasEnded {W : Type 0} (contents : W → Option (List ℕ)) (from : Counted W) (format : Format) (given : List LineOp) (done : Imported W) : Type 0 where
   pub names : done.names ≡ names_of given
   pub operations : done.operations ≡ length given
-  pub is_trace : IsTrace (trace_of given)
-  pub written : Appends (contents (inner from)) (contents (inner done.writer)) (text (trace_of given))
+  pub is_trace : IsTrace (trace_of format given)
+  pub written : Appends (contents (inner from)) (contents (inner done.writer)) (text (trace_of format given))
   pub heard : failures done.writer ≡ failures from
 
 -- the importer took all bytes that the reader had, if those are known
@@ -60,8 +65,8 @@ abbrev pub HasReadAll : {W : Type 0} → (W → Option (List ℕ)) → Counted W
 HasReadAll contents from known i = (fed : List ℕ) × IsUnderway contents from fed i × IfSome known (λ bytes. bytes ≡ fed)
 
 -- the import ended with all operations of these bytes' lines
-abbrev pub Finishes : {W : Type 0} → (W → Option (List ℕ)) → Counted W → List ℕ → Imported W → Type 0
-Finishes contents from fed done = (given : List LineOp) × LinesGive (lines fed) given × HasEnded contents from given done
+abbrev pub Finishes : {W : Type 0} → (W → Option (List ℕ)) → Counted W → Format → List ℕ → Imported W → Type 0
+Finishes contents from format fed done = (given : List LineOp) × LinesGive format (lines fed) given × HasEnded contents from format given done
 
 -- ---- stopping
 
@@ -78,11 +83,12 @@ IsStopOf clients number given reported Endless = ⊥
 IsStopOf clients number given reported _ = Unit {0}
 
 -- the fault that stops the import at this line, of this number, after lines with these operations
-abbrev pub IsStopAt : ℕ → ℕ → List LineOp → List ℕ → ImportFault → Type 0
-IsStopAt clients number given line (Line n fault) = (n ≡ number) × IsFaultyAfter given line fault
-IsStopAt clients number given line Changed = (reported : LineOp) × LineGives line (Some reported) × (clients < length (names_of (given ++ reported ∷ [])))
-IsStopAt clients number given line Endless = ⊥
-IsStopAt clients number given line _ = Unit {0}
+abbrev pub IsStopAt : Format → ℕ → ℕ → List LineOp → List ℕ → ImportFault → Type 0
+IsStopAt format clients number given line (Line n fault) = (n ≡ number) × IsFaultyAfter format given line fault
+IsStopAt format clients number given line Changed =
+    (reported : LineOp) × LineGives format line (Some reported) × (clients < length (names_of (given ++ reported ∷ [])))
+IsStopAt format clients number given line Endless = ⊥
+IsStopAt format clients number given line _ = Unit {0}
 
 -- the fault that stops the import at the end, after all lines with these operations
 abbrev pub IsStopAtEnd : ℕ → List LineOp → ImportFault → Type 0
@@ -92,6 +98,6 @@ IsStopAtEnd clients given Endless = ⊥
 IsStopAtEnd clients given _ = Unit {0}
 
 -- the import stopped: whatever bytes follow, the fault is that of the whole text
-pub record HasStopped {W : Type 0} (contents : W → Option (List ℕ)) (from : Counted W) (fed : List ℕ) (fault : ImportFault) (clients : ℕ) (w : Counted W) : Type 0 where
-  pub says : (more : List ℕ) → IsFaultOf clients (fed ++ more) fault
+pub record HasStopped {W : Type 0} (contents : W → Option (List ℕ)) (from : Counted W) (fed : List ℕ) (fault : ImportFault) (format : Format) (clients : ℕ) (w : Counted W) : Type 0 where
+  pub says : (more : List ℕ) → IsFaultOf format clients (fed ++ more) fault
   pub left : HasLeft contents from fault w

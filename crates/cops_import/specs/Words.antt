@@ -3,7 +3,7 @@ use Rattle.std.specs.Prelude.{ℕ, ◌+◌, List, [], ◌∷◌, ◌++◌, codes
 use Rattle.cops_types.specs.Texts.{◌⧺◌}
 use Rattle.cops_wire.specs.Shown.{bytes_text}
 use Rattle.cops_import.specs.declared.fault.JsonLineFault.{JsonLineFault}
-use Rattle.cops_import.specs.declared.fault.JsonLineFault.TheVariants.{NoJson, NoClient, NoOperation, BothOperations, BadKey, BadValue, BadVersion, TooManyClients, TooManyOperations}
+use Rattle.cops_import.specs.declared.fault.JsonLineFault.TheVariants.{NoJson, NoClient, NoOperation, BothOperations, BadKey, BadValue, BadVersion, NeedsFormat2, TooManyClients, TooManyOperations}
 
 abbrev pub words_of : JsonLineFault → List ℕ
 words_of NoJson = codes "no JSON"
@@ -13,6 +13,7 @@ words_of BothOperations = codes "both operations"
 words_of BadKey = codes "bad key"
 words_of BadValue = codes "bad value"
 words_of BadVersion = codes "bad version"
+words_of NeedsFormat2 = codes "needs format 2"
 words_of TooManyClients = codes "too many clients"
 words_of TooManyOperations = codes "too many operations"
 

@@ -15,25 +15,29 @@ pub enum JsonLineFault {
     /// 1: the line is no object, or its client is neither a text nor a whole number.
     #[error("no client")]
     NoClient,
-    /// 2: the line has neither a put nor a get.
+    /// 2: the line has no put, no get and no deletion.
     #[error("no operation")]
     NoOperation,
-    /// 3: the line has both a put and a get.
+    /// 3: the line has more than one of them.
     #[error("both operations")]
     BothOperations,
     /// 4: the key is no text of 1 to 64 bytes.
     #[error("bad key")]
     BadKey,
-    /// 5: the value is no text of at most 4,096 bytes, and the operation is not a get that found nothing.
+    /// 5: the value is no text of at most 4,096 bytes (16,384 in format 2), nor the null of a get, nor the null or
+    /// missing one of a deletion.
     #[error("bad value")]
     BadValue,
     /// 6: the version is not a version.
     #[error("bad version")]
     BadVersion,
-    /// 7: the line's client is the 65,536th.
+    /// 7: the operation is a deletion or a get that found one, and the format is 1.
+    #[error("needs format 2")]
+    NeedsFormat2,
+    /// 8: the line's client is the 65,536th.
     #[error("too many clients")]
     TooManyClients,
-    /// 8: the operation is its client's 1,000,001st, or the 16,000,001st of all.
+    /// 9: the operation is its client's 1,000,001st, or the 16,000,001st of all.
     #[error("too many operations")]
     TooManyOperations,
 }
@@ -54,6 +58,7 @@ impl JsonLineFault {
             JsonLineFault::BadKey => "bad key",
             JsonLineFault::BadValue => "bad value",
             JsonLineFault::BadVersion => "bad version",
+            JsonLineFault::NeedsFormat2 => "needs format 2",
             JsonLineFault::TooManyClients => "too many clients",
             JsonLineFault::TooManyOperations => "too many operations",
         }

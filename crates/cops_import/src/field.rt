@@ -3,7 +3,7 @@ ghost use Rattle.std.specs.Prelude.{◌≡◌, ◌≢◌, ℕ, List, Err, IfOk, 
 ghost use Rattle.serde_json.specs.View.{view};
 ghost use Rattle.cops_json.specs.Json.{number_json};
 ghost use Rattle.cops_types.specs.Version.{IsVersion, clock_of, node_of};
-ghost use Rattle.cops_import.specs.Line.{HasNoValue, HasNoVersion, GivesName, GivesValue, GivesVersion, pair_json};
+ghost use Rattle.cops_import.specs.Line.{HasNoVersion, GivesName, GivesValue, GivesVersion, pair_json};
 
 use crate::name::Name;
 use cops_json::{Unread, value, version};
@@ -25,12 +25,12 @@ pub(crate) fn name_of(alloc: Global, object: &Json) -> Result<Name, Unread>
     Ok(Name::new(alloc, digits.as_str().as_bytes())?)
 }
 
-/// The value of an object, a text of at most 4,096 bytes.
-pub(crate) fn value_of(alloc: Global, object: &Json) -> Result<Value, Unread>
-    ensures reported { IfOk result (GivesValue (view object.now)) }
-    ensures none { result ≡ Err Unread.Form → HasNoValue (view object.now) }
+/// The value of an object, a text of at most as many bytes as the format allows.
+pub(crate) fn value_of(alloc: Global, format: Format, object: &Json) -> Result<Value, Unread>
+    ensures reported { IfOk result (GivesValue format (view object.now)) }
+    ensures none { result ≡ Err Unread.Form → (bytes : List ℕ) → GivesValue format (view object.now) bytes → ⊥ }
 {
-    value(alloc, Format::One, object.get("value").ok_or(Unread::Form)?)
+    value(alloc, format, object.get("value").ok_or(Unread::Form)?)
 }
 
 /// The version of an object: a text, a clock or a pair.

@@ -3,11 +3,10 @@ ghost use Rattle.std.specs.Prelude.{◌≡◌, ◌≢◌, [], ◌∷◌, ◌++�
 ghost use Rattle.cops_import.specs.Lines.{IsWithin};
 ghost use Rattle.cops_types.specs.declared.counted.Counted.{Counted as ACounted};
 ghost use Rattle.cops_types.specs.Operations.{operation_of};
-ghost use Rattle.cops_types.specs.declared.format.Format.TheVariants.{One};
 ghost use Rattle.cops_trace.specs.Text.{IsOp};
 ghost use Rattle.cops_import.specs.declared.line.LineOp.{LineOp as AGivenOp};
 ghost use Rattle.cops_import.specs.Faults.{IsFaultOf};
-ghost use Rattle.cops_import.specs.Underway.{Finishes, HasEnded, HasLeft, HasStopped, HasTaken, IsStopAt, IsStopAtEnd, IsStopOf, IsUnderway, TakesLine};
+ghost use Rattle.cops_import.specs.Underway.{Finishes, HasEnded, HasLeft, HasStopped, HasTaken, IsStopAt, IsStopAtEnd, IsStopOf, IsUnderway, TakesLine, format_of};
 
 use crate::fault::{ImportFault, JsonLineFault};
 use crate::imported::{Imported, Unimported};
@@ -44,16 +43,22 @@ fn cut_line(bytes: &[u8]) -> Option<(&[u8], &[u8])>
 }
 
 impl<W: Write> Importer<W> {
-    /// Begins an import, and writes the head of a trace with this number of clients. Returns the writer if the head is
-    /// not written.
-    pub(crate) fn new(alloc: Global, trace: Counted<W>, clients: u16) -> Result<Self, Unimported<W>>
+    /// Begins an import, and writes the head of a trace of this format with this number of clients. Returns the writer
+    /// if the head is not written.
+    pub(crate) fn new(
+        alloc: Global,
+        trace: Counted<W>,
+        format: Format,
+        clients: u16,
+    ) -> Result<Self, Unimported<W>>
         ensures ok { IfOk result (λ i. IsUnderway W.contents trace [] i) }
         ensures err { IfErr result (λ u. HasLeft W.contents trace u.fault u.writer) }
-        ensures fault { IfErr result (λ u. (bytes : List ℕ) → IsFaultOf clients bytes u.fault) }
+        ensures fault { IfErr result (λ u. (bytes : List ℕ) → IsFaultOf format clients bytes u.fault) }
         ensures device { IfErr result (λ u. u.fault ≢ ImportFault.ReadFailed) }
         ensures clients { IfOk result (λ i. i.clients ≡ clients) }
+        ensures format { IfOk result (λ i. format_of i ≡ format) }
     {
-        match TraceWriter::new(Format::One, alloc, trace, clients) {
+        match TraceWriter::new(format, alloc, trace, clients) {
             Ok(writer) => Ok(Importer {
                 alloc,
                 clients,
@@ -69,12 +74,13 @@ impl<W: Write> Importer<W> {
 
     /// Writes the record of an operation: that of the named client, from the line of this number.
     fn take(&mut self, name: Name, op: &Op, number: u64) -> Result<(), ImportFault>
-        requires { IsOp One (operation_of op.now) }
+        requires { IsOp (format_of self.old) (operation_of op.now) }
         ensures ok { OnOk result ((from : ACounted W) (given : List AGivenOp) → HasTaken W.contents from given self.old → HasTaken W.contents from (given ++ record { name = name; op = op.now } ∷ []) self.new) }
         ensures err { IfErr result (λ e. (from : ACounted W) (given : List AGivenOp) → HasTaken W.contents from given self.old → HasLeft W.contents from e self.new.writer.writer) }
         ensures stop { IfErr result (λ e. (from : ACounted W) (given : List AGivenOp) → HasTaken W.contents from given self.old → IsStopOf self.old.clients number given (record { name = name; op = op.now }) e) }
         ensures device { IfErr result (λ e. e ≢ ImportFault.ReadFailed) }
         ensures clients { self.new.clients ≡ self.old.clients }
+        ensures format { OnOk result (format_of self.new ≡ format_of self.old) }
         ensures line { self.new.line ≡ self.old.line }
     {
         let Ok(client) = self.names.number(name) else {
@@ -107,13 +113,14 @@ impl<W: Write> Importer<W> {
 
     /// Takes the line that has come, which has this number.
     fn take_line(&mut self, number: u64) -> Result<(), ImportFault>
-        ensures ok { OnOk result ((from : ACounted W) (given : List AGivenOp) → HasTaken W.contents from given self.old → TakesLine W.contents from given self.old.line.items self.new) }
+        ensures ok { OnOk result ((from : ACounted W) (given : List AGivenOp) → HasTaken W.contents from given self.old → TakesLine W.contents from (format_of self.old) given self.old.line.items self.new) }
         ensures err { IfErr result (λ e. (from : ACounted W) (given : List AGivenOp) → HasTaken W.contents from given self.old → HasLeft W.contents from e self.new.writer.writer) }
-        ensures stop { IfErr result (λ e. (from : ACounted W) (given : List AGivenOp) → HasTaken W.contents from given self.old → IsStopAt self.old.clients number given self.old.line.items e) }
+        ensures stop { IfErr result (λ e. (from : ACounted W) (given : List AGivenOp) → HasTaken W.contents from given self.old → IsStopAt (format_of self.old) self.old.clients number given self.old.line.items e) }
         ensures device { IfErr result (λ e. e ≢ ImportFault.ReadFailed) }
         ensures clients { self.new.clients ≡ self.old.clients }
+        ensures format { OnOk result (format_of self.new ≡ format_of self.old) }
     {
-        match of_line(self.alloc, &self.line) {
+        match of_line(self.alloc, self.writer.format(), &self.line) {
             Ok(None) => Ok(()),
             Ok(Some(reported)) => {
                 let LineOp { name, op } = reported;
@@ -127,9 +134,10 @@ impl<W: Write> Importer<W> {
     /// Takes the line that a line feed ends.
     fn end_line(&mut self) -> Result<(), ImportFault>
         ensures ok { OnOk result ((from : ACounted W) (fed : List ℕ) → IsUnderway W.contents from fed self.old → IsUnderway W.contents from (fed ++ 10 ∷ []) self.new) }
-        ensures err { IfErr result (λ e. (from : ACounted W) (fed : List ℕ) → IsUnderway W.contents from fed self.old → HasStopped W.contents from (fed ++ 10 ∷ []) e self.old.clients self.new.writer.writer) }
+        ensures err { IfErr result (λ e. (from : ACounted W) (fed : List ℕ) → IsUnderway W.contents from fed self.old → HasStopped W.contents from (fed ++ 10 ∷ []) e (format_of self.old) self.old.clients self.new.writer.writer) }
         ensures device { IfErr result (λ e. e ≢ ImportFault.ReadFailed) }
         ensures clients { self.new.clients ≡ self.old.clients }
+        ensures format { OnOk result (format_of self.new ≡ format_of self.old) }
     {
         let Some(number) = self.ended.checked_add(1) else {
             return Err(ImportFault::Endless);
@@ -148,9 +156,10 @@ impl<W: Write> Importer<W> {
     fn take_part(&mut self, part: &[u8]) -> Result<(), ImportFault>
         requires { IsWithin part.now }
         ensures ok { OnOk result ((from : ACounted W) (fed : List ℕ) → IsUnderway W.contents from fed self.old → IsUnderway W.contents from (fed ++ part.now) self.new) }
-        ensures err { IfErr result (λ e. (from : ACounted W) (fed : List ℕ) → IsUnderway W.contents from fed self.old → HasStopped W.contents from (fed ++ part.now) e self.old.clients self.new.writer.writer) }
+        ensures err { IfErr result (λ e. (from : ACounted W) (fed : List ℕ) → IsUnderway W.contents from fed self.old → HasStopped W.contents from (fed ++ part.now) e (format_of self.old) self.old.clients self.new.writer.writer) }
         ensures device { IfErr result (λ e. e ≢ ImportFault.ReadFailed) }
         ensures clients { self.new.clients ≡ self.old.clients }
+        ensures format { OnOk result (format_of self.new ≡ format_of self.old) }
     {
         match self.line.extend_from_slice(part) {
             Ok(()) => Ok(()),
@@ -162,9 +171,10 @@ impl<W: Write> Importer<W> {
     fn take_end(&mut self, part: &[u8]) -> Result<(), ImportFault>
         requires { IsWithin part.now }
         ensures ok { OnOk result ((from : ACounted W) (fed : List ℕ) → IsUnderway W.contents from fed self.old → IsUnderway W.contents from (fed ++ part.now ++ 10 ∷ []) self.new) }
-        ensures err { IfErr result (λ e. (from : ACounted W) (fed : List ℕ) → IsUnderway W.contents from fed self.old → HasStopped W.contents from (fed ++ part.now ++ 10 ∷ []) e self.old.clients self.new.writer.writer) }
+        ensures err { IfErr result (λ e. (from : ACounted W) (fed : List ℕ) → IsUnderway W.contents from fed self.old → HasStopped W.contents from (fed ++ part.now ++ 10 ∷ []) e (format_of self.old) self.old.clients self.new.writer.writer) }
         ensures device { IfErr result (λ e. e ≢ ImportFault.ReadFailed) }
         ensures clients { self.new.clients ≡ self.old.clients }
+        ensures format { OnOk result (format_of self.new ≡ format_of self.old) }
     {
         match self.take_part(part) {
             Ok(()) => {}
@@ -179,9 +189,10 @@ impl<W: Write> Importer<W> {
     /// Takes the next bytes.
     pub(crate) fn take_piece(&mut self, piece: &[u8]) -> Result<(), ImportFault>
         ensures ok { OnOk result ((from : ACounted W) (fed : List ℕ) → IsUnderway W.contents from fed self.old → IsUnderway W.contents from (fed ++ piece.now) self.new) }
-        ensures err { IfErr result (λ e. (from : ACounted W) (fed : List ℕ) → IsUnderway W.contents from fed self.old → HasStopped W.contents from (fed ++ piece.now) e self.old.clients self.new.writer.writer) }
+        ensures err { IfErr result (λ e. (from : ACounted W) (fed : List ℕ) → IsUnderway W.contents from fed self.old → HasStopped W.contents from (fed ++ piece.now) e (format_of self.old) self.old.clients self.new.writer.writer) }
         ensures device { IfErr result (λ e. e ≢ ImportFault.ReadFailed) }
         ensures clients { self.new.clients ≡ self.old.clients }
+        ensures format { OnOk result (format_of self.new ≡ format_of self.old) }
     {
         let mut rest = piece;
         while let Some((part, behind)) = cut_line(rest) {
@@ -199,9 +210,9 @@ impl<W: Write> Importer<W> {
 
     /// Takes the last line, and writes the end record.
     pub(crate) fn finish(mut self) -> Result<Imported<W>, Unimported<W>>
-        ensures ok { IfOk result (λ done. (from : ACounted W) (fed : List ℕ) → IsUnderway W.contents from fed self → Finishes W.contents from fed done) }
+        ensures ok { IfOk result (λ done. (from : ACounted W) (fed : List ℕ) → IsUnderway W.contents from fed self → Finishes W.contents from (format_of self) fed done) }
         ensures err { IfErr result (λ u. (from : ACounted W) (fed : List ℕ) → IsUnderway W.contents from fed self → HasLeft W.contents from u.fault u.writer) }
-        ensures fault { IfErr result (λ u. (from : ACounted W) (fed : List ℕ) → IsUnderway W.contents from fed self → IsFaultOf self.clients fed u.fault) }
+        ensures fault { IfErr result (λ u. (from : ACounted W) (fed : List ℕ) → IsUnderway W.contents from fed self → IsFaultOf (format_of self) self.clients fed u.fault) }
         ensures device { IfErr result (λ u. u.fault ≢ ImportFault.ReadFailed) }
         ensures clients { IfOk result (λ done. length done.names ≡ self.clients) }
     {
@@ -216,7 +227,7 @@ impl<W: Write> Importer<W> {
 
     /// Writes the end record, if the lines named as many clients as the caller said.
     fn end(self) -> Result<Imported<W>, Unimported<W>>
-        ensures ok { IfOk result (λ done. (from : ACounted W) (given : List AGivenOp) → HasTaken W.contents from given self → HasEnded W.contents from given done) }
+        ensures ok { IfOk result (λ done. (from : ACounted W) (given : List AGivenOp) → HasTaken W.contents from given self → HasEnded W.contents from (format_of self) given done) }
         ensures err { IfErr result (λ u. (from : ACounted W) (given : List AGivenOp) → HasTaken W.contents from given self → HasLeft W.contents from u.fault u.writer) }
         ensures stop { IfErr result (λ u. (from : ACounted W) (given : List AGivenOp) → HasTaken W.contents from given self → IsStopAtEnd self.clients given u.fault) }
         ensures device { IfErr result (λ u. u.fault ≢ ImportFault.ReadFailed) }

@@ -18,6 +18,7 @@ pub use count::count_clients;
 pub use fault::{ImportFault, JsonLineFault, faulty_line};
 pub use imported::{Imported, Unimported};
 pub use laws::lines_determine_one;
+pub use line::is_blank;
 pub use name::Name;
 pub use names::Names;
 pub use reading::import_stream;

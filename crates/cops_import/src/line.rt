@@ -1,16 +1,17 @@
 //! Parsing one line.
-ghost use Rattle.std.specs.Prelude.{◌≡◌, ◌↔◌, Err, IfOk, IsTrue, Some, option_map};
+ghost use Rattle.std.specs.Prelude.{◌≡◌, ◌↔◌, Err, IfErr, IfOk, IsTrue, Some, option_map};
 ghost use Rattle.serde_json.specs.Data.{null};
 ghost use Rattle.serde_json.specs.View.{view};
+ghost use Rattle.cops_types.specs.declared.format.Format.{Format as AFormat};
 ghost use Rattle.cops_import.specs.declared.fault.JsonLineFault.{JsonLineFault as AFault};
-ghost use Rattle.cops_import.specs.Line.{FoundNothing, IsAsked, IsBlank, IsFaulty, IsNothing, IsWrong, IsWrongIn, LineGives, Gives, GivesName, TextGives};
+ghost use Rattle.cops_import.specs.Line.{FoundNothing, HasName, HasNoContent, IsAsked, IsBlank, IsFaulty, IsNothing, IsWrong, IsWrongIn, LineGives, Gives, GivesContent, TextGives, is_blank_line};
 ghost use Rattle.cops_import.specs.Asked.{IsWrongOf, GivesKind};
 
 use crate::fault::JsonLineFault;
 use crate::field::{name_of, value_of, version_of};
 use crate::name::Name;
 use cops_json::{Unread, key};
-use cops_types::Op;
+use cops_types::{Format, Op, Value};
 use serde_json::Value as Json;
 use std::alloc::Global;
 
@@ -26,6 +27,7 @@ pub(crate) struct LineOp {
 pub(crate) enum Kind {
     Put,
     Get,
+    Del,
 }
 
 /// Why a line gives no operation.
@@ -51,86 +53,88 @@ impl NotGiven {
     }
 }
 
-/// The operation of a line, nothing if it is blank, or what is wrong with it.
-pub(crate) fn of_line(alloc: Global, line: &[u8]) -> Result<Option<LineOp>, NotGiven>
-    ensures reported { IfOk result (LineGives line.now) }
-    ensures wrong { (fault : AFault) → result ≡ Err (NotGiven.Fault fault) → IsFaulty line.now fault }
+/// The operation of a line in a trace of the format, nothing if it is blank, or what is wrong with it.
+pub(crate) fn of_line(
+    alloc: Global,
+    format: Format,
+    line: &[u8],
+) -> Result<Option<LineOp>, NotGiven>
+    ensures reported { IfOk result (LineGives format line.now) }
+    ensures wrong { (fault : AFault) → result ≡ Err (NotGiven.Fault fault) → IsFaulty format line.now fault }
 {
     if is_blank(line) {
         return Ok(None);
     }
-    match of_text(alloc, line) {
+    match of_text(alloc, format, line) {
         Ok(reported) => Ok(Some(reported)),
         Err(not_given) => Err(not_given),
     }
 }
 
 /// The operation of a line's JSON text.
-fn of_text(alloc: Global, line: &[u8]) -> Result<LineOp, NotGiven>
-    ensures reported { IfOk result (TextGives line.now) }
-    ensures wrong { (fault : AFault) → result ≡ Err (NotGiven.Fault fault) → IsWrongIn line.now fault }
+fn of_text(alloc: Global, format: Format, line: &[u8]) -> Result<LineOp, NotGiven>
+    ensures reported { IfOk result (TextGives format line.now) }
+    ensures wrong { (fault : AFault) → result ≡ Err (NotGiven.Fault fault) → IsWrongIn format line.now fault }
 {
     match Json::from_slice(alloc, line) {
-        Ok(object) => of_object(alloc, &object),
+        Ok(object) => of_object(alloc, format, &object),
         Err(e) if e.is_memory() => Err(NotGiven::Memory),
         Err(_) => Err(NotGiven::Fault(JsonLineFault::NoJson)),
     }
 }
 
-/// Whether a line has nothing but spaces, tabs and carriage returns.
-pub(crate) fn is_blank(line: &[u8]) -> bool
-    ensures { IsTrue result ↔ IsBlank line.now }
+/// Whether a line has nothing but spaces, tabs and carriage returns. An import skips such a line.
+pub fn is_blank(line: &[u8]) -> bool
+    ensures value { result ≡ is_blank_line line.now }
+    ensures blank { IsTrue result ↔ IsBlank line.now }
 {
     line.iter()
         .all(|b| *b == b' ' || *b == b'\t' || *b == b'\r')
 }
 
 /// The operation of an object.
-fn of_object(alloc: Global, object: &Json) -> Result<LineOp, NotGiven>
-    ensures reported { IfOk result (Gives (view object.now)) }
-    ensures wrong { (fault : AFault) → result ≡ Err (NotGiven.Fault fault) → IsWrong (view object.now) fault }
+fn of_object(alloc: Global, format: Format, object: &Json) -> Result<LineOp, NotGiven>
+    ensures reported { IfOk result (Gives format (view object.now)) }
+    ensures wrong { (fault : AFault) → result ≡ Err (NotGiven.Fault fault) → IsWrong format (view object.now) fault }
 {
     let name = match name_of(alloc, object) {
         Ok(name) => name,
         Err(unread) => return Err(NotGiven::of(unread, JsonLineFault::NoClient)),
     };
-    match (object.get("put"), object.get("get")) {
-        (None, None) => Err(NotGiven::Fault(JsonLineFault::NoOperation)),
-        (Some(_), Some(_)) => Err(NotGiven::Fault(JsonLineFault::BothOperations)),
-        (Some(at), None) => of_kind(alloc, name, Kind::Put, at, object),
-        (None, Some(at)) => of_kind(alloc, name, Kind::Get, at, object),
-    }
-}
-
-/// The operation of this client's object, given its kind and the value of its key's member.
-fn of_kind(
-    alloc: Global,
-    name: Name,
-    kind: Kind,
-    at: &Json,
-    object: &Json,
-) -> Result<LineOp, NotGiven>
-    requires name { GivesName (view object.now) name }
-    requires asked { IsAsked (view object.now) kind (view at.now) }
-    ensures reported { IfOk result (Gives (view object.now)) }
-    ensures wrong { (fault : AFault) → result ≡ Err (NotGiven.Fault fault) → IsWrong (view object.now) fault }
-{
-    match op(alloc, kind, at, object) {
+    let (kind, at) = match asked(object) {
+        Ok(asked) => asked,
+        Err(fault) => return Err(NotGiven::Fault(fault)),
+    };
+    match op(alloc, format, kind, at, object) {
         Ok(op) => Ok(LineOp { name, op }),
         Err(not_given) => Err(not_given),
     }
 }
 
+/// The kind of an object's one operation, and the value that holds its key.
+fn asked(object: &Json) -> Result<(Kind, &Json), JsonLineFault>
+    ensures one { IfOk result (λ asked. IsAsked (view object.now) asked.0 (view asked.1.now)) }
+    ensures wrong { IfErr result (λ fault. (format : AFormat) → HasName (view object.now) → IsWrong format (view object.now) fault) }
+{
+    match (object.get("put"), object.get("get"), object.get("del")) {
+        (Some(at), None, None) => Ok((Kind::Put, at)),
+        (None, Some(at), None) => Ok((Kind::Get, at)),
+        (None, None, Some(at)) => Ok((Kind::Del, at)),
+        (None, None, None) => Err(JsonLineFault::NoOperation),
+        _ => Err(JsonLineFault::BothOperations),
+    }
+}
+
 /// The operation of this kind, whose key is in `at`.
-fn op(alloc: Global, kind: Kind, at: &Json, object: &Json) -> Result<Op, NotGiven>
-    ensures reported { IfOk result (GivesKind (view object.now) kind (view at.now)) }
-    ensures wrong { (fault : AFault) → result ≡ Err (NotGiven.Fault fault) → IsWrongOf (view object.now) kind (view at.now) fault }
+fn op(alloc: Global, format: Format, kind: Kind, at: &Json, object: &Json) -> Result<Op, NotGiven>
+    ensures reported { IfOk result (GivesKind format (view object.now) kind (view at.now)) }
+    ensures wrong { (fault : AFault) → result ≡ Err (NotGiven.Fault fault) → IsWrongOf format (view object.now) kind (view at.now) fault }
 {
     let key = key(alloc, at).map_err(|unread| NotGiven::of(unread, JsonLineFault::BadKey))?;
     if kind == Kind::Get && found_nothing(object) {
         return Ok(Op::Missed { key });
     }
-    let value = value_of(alloc, object).map_err(|unread| NotGiven::of(
+    let content = content_of(alloc, format, kind, object).map_err(|unread| NotGiven::of(
         unread,
         JsonLineFault::BadValue,
     ))?;
@@ -138,18 +142,33 @@ fn op(alloc: Global, kind: Kind, at: &Json, object: &Json) -> Result<Op, NotGive
         unread,
         JsonLineFault::BadVersion,
     ))?;
-    Ok(match kind {
-        Kind::Put => Op::Put {
-            key,
-            value,
-            version,
-        },
-        Kind::Get => Op::Got {
-            key,
-            value,
-            version,
-        },
-    })
+    if !format.fits(content.as_ref()) {
+        return Err(NotGiven::Fault(JsonLineFault::NeedsFormat2));
+    }
+    match kind {
+        Kind::Get => Ok(Op::read(key, content, version)),
+        Kind::Put | Kind::Del => Ok(Op::write(key, content, version)),
+    }
+}
+
+/// What an operation of this kind put or got, other than a get that found nothing: a value, or none where it is a
+/// deletion or a get that found one.
+fn content_of(
+    alloc: Global,
+    format: Format,
+    kind: Kind,
+    object: &Json,
+) -> Result<Option<Value>, Unread>
+    ensures reported { IfOk result (GivesContent format (view object.now) kind) }
+    ensures none { result ≡ Err Unread.Form → HasNoContent format (view object.now) kind }
+{
+    let value = object.get("value");
+    match kind {
+        Kind::Get if is_null(value) && !is_nothing(object.get("version")) => Ok(None),
+        Kind::Del if is_nothing(value) => Ok(None),
+        Kind::Del => Err(Unread::Form),
+        Kind::Put | Kind::Get => Ok(Some(value_of(alloc, format, object)?)),
+    }
 }
 
 /// Whether an object has a null as its value, and no version.

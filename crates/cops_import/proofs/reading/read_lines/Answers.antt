@@ -1,10 +1,8 @@
-use Rattle.std.proofs.Common.{◌++◌, ◌^◌, ℕ, take, subst, ◌∙◌, arith}
-use Rattle.std.specs.Prelude.{IfSome}
+use Rattle.std.proofs.Common.{◌++◌, ◌^◌, take, ◌∙◌, arith}
 use Rattle.std.proofs.lemmas.List.{length-append}
 use Rattle.cops_types.specs.Counted.{inner}
 use Rattle.cops_types.proofs.Devices.{consumed}
-use Rattle.cops_import.specs.Faults.{IsFaultOf}
-use Rattle.cops_import.proofs.Inputs.{all_read, fault_read, long_read}
+use Rattle.cops_import.proofs.Inputs.{all_read, fault_as, fault_read, long_read}
 use Rattle.cops_import.proofs.Records.{cut_so_far}
 use Rattle.cops_import.proofs.reading.read_lines.Goals as goal
 
@@ -20,8 +18,8 @@ pub returns-in-Err-take_piece-clause-fault : goal.returns-in-Err-take_piece-clau
 returns-in-Err-take_piece-clause-fault g c = λ from u.
     let read = c.loop.invariant.fed in
     let stop = c.in-Err-take_piece.ensures.err from read.0 (read.3 from u) in
-    subst (λ (k : ℕ). IfSome (g.R.Read.remaining (inner c.args.lines.now)) (λ bytes. IsFaultOf k bytes c.in-Err-take_piece.fault)) c.loop.invariant.clients
-    (fault_read _ _ _ read.0 (take c.in-Ok.count c.read.new.buf) _ c.in-Err-take_piece.fault read.1 c.in-Ok.ensures.bytes.0 stop.says)
+    fault_as _ _ _ _ _ c.in-Err-take_piece.fault c.loop.invariant.format c.loop.invariant.clients
+    (fault_read _ _ _ read.0 (take c.in-Ok.count c.read.new.buf) _ _ c.in-Err-take_piece.fault read.1 c.in-Ok.ensures.bytes.0 stop.says)
 
 pub loop-preserved : goal.loop-preserved
 loop-preserved g c =
@@ -31,6 +29,7 @@ loop-preserved g c =
       fed = (read.0 ++ taken, consumed _ _ _ read.0 taken read.1 c.in-Ok.ensures.bytes.0, omega (arith, length-append read.0 taken, c.in-Ok.ensures.bound.1, read.2, c.if-count-eq0.false), λ from u. c.in-Ok-take_piece.ensures.ok from read.0 (read.3 from u));
       count = c.in-Ok.ensures.count ∙ c.loop.invariant.count;
       clients = c.in-Ok-take_piece.ensures.clients ∙ c.loop.invariant.clients;
+      format = c.in-Ok-take_piece.ensures.format ∙ c.loop.invariant.format;
     }
 
 pub returns-then-count-eq0-clause-ok : goal.returns-then-count-eq0-clause-ok

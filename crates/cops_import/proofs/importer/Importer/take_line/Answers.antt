@@ -1,6 +1,7 @@
 use Rattle.std.proofs.Common.{rules}
 use Rattle.std.specs.Prelude.{Some}
 use Rattle.cops_import.specs.Line.{LineGives}
+use Rattle.cops_import.specs.Underway.{format_of}
 use Rattle.cops_import.proofs.Records.{cut_so_far}
 use Rattle.cops_import.proofs.Stops.{if_err, on_ok, stop_of}
 use Rattle.cops_import.proofs.importer.Importer.take_line.Goals as goal
@@ -8,15 +9,15 @@ use Rattle.cops_import.proofs.importer.Importer.take_line.Goals as goal
 pub returns-in-Ok-Some-clause-ok : goal.returns-in-Ok-Some-clause-ok
 returns-in-Ok-Some-clause-ok g c = on_ok c.take.result _ _
     (λ h from given taken.
-    let reports : LineGives c.args.self.now.line.items (Some c.in-Ok-Some.reported) = search rules in
+    let reports : LineGives (format_of c.args.self.now) c.args.self.now.line.items (Some c.in-Ok-Some.reported) = search rules in
     (Some c.in-Ok-Some.reported, reports, h from given taken))
     c.take.ensures.ok
 
 pub returns-in-Ok-Some-clause-stop : goal.returns-in-Ok-Some-clause-stop
 returns-in-Ok-Some-clause-stop g c = if_err c.take.result _ _
     (λ e h from given taken.
-    let reports : LineGives c.args.self.now.line.items (Some c.in-Ok-Some.reported) = search rules in
-    stop_of c.args.self.now.clients c.args.number given c.args.self.now.line.items c.in-Ok-Some.reported e reports (h from given taken))
+    let reports : LineGives (format_of c.args.self.now) c.args.self.now.line.items (Some c.in-Ok-Some.reported) = search rules in
+    stop_of (format_of c.args.self.now) c.args.self.now.clients c.args.number given c.args.self.now.line.items c.in-Ok-Some.reported e reports (h from given taken))
     c.take.ensures.stop
 
 pub returns-in-Err-Memory-clause-err : goal.returns-in-Err-Memory-clause-err
