@@ -1,6 +1,6 @@
 ghost use Rattle.std.specs.Prelude.{◌≡◌, ◌↔◌, List, ℕ};
 ghost use Rattle.cops_wire.specs.Answer.{IsBytes};
-ghost use Rattle.cops_types.specs.declared.selection.Selection.{Selection as ASelection};
+ghost use Rattle.cops_audit_commands.specs.declared.explain.Request.{Request};
 ghost use Rattle.cops_trace.specs.declared.fault.TraceFault.TheVariants.{Cut};
 ghost use Rattle.cops_trace.specs.Answer.{HasFault};
 ghost use Rattle.cops_audit_commands.specs.Audit.{AuditSays};
@@ -23,11 +23,11 @@ pub fn one_audit_so_far()
         SaysSoFar bytes answer reported ↔ AuditSays bytes answer reported }
 {}
 
-/// A law of the definitions: for any bytes and any selection of faults the explanation has one answer and one text, and
+/// A law of the definitions: for any bytes and whatever is asked for the explanation has one answer and one text, and
 /// the answer is that of the audit.
 pub fn one_explanation()
-    ensures one { (bytes : List ℕ) → IsBytes bytes → (asked : ASelection) (answer other : Answer) (reported text : List ℕ) →
-        ExplainSays asked bytes answer reported → ExplainSays asked bytes other text → (answer ≡ other) × (reported ≡ text) }
-    ensures audited { (bytes : List ℕ) → IsBytes bytes → (asked : ASelection) (answer other : Answer) (reported text : List ℕ) →
-        ExplainSays asked bytes answer reported → AuditSays bytes other text → answer ≡ other }
+    ensures one { (bytes : List ℕ) → IsBytes bytes → (request : Request) (answer other : Answer) (reported text : List ℕ) →
+        ExplainSays request bytes answer reported → ExplainSays request bytes other text → (answer ≡ other) × (reported ≡ text) }
+    ensures audited { (bytes : List ℕ) → IsBytes bytes → (request : Request) (answer other : Answer) (reported text : List ℕ) →
+        ExplainSays request bytes answer reported → AuditSays bytes other text → answer ≡ other }
 {}

@@ -15,7 +15,7 @@ mod so_far;
 
 pub use audit::{Answer, StreamFault, audit_stream};
 pub use convert::{convert_stream, converted_line};
-pub use explain::{Explained, explain_stream};
+pub use explain::{Explained, ExplainedText, Request, explain_stream, explanation};
 pub use laws::{one_audit, one_audit_so_far, one_explanation};
 pub use show::show_stream;
 pub use so_far::audit_so_far;

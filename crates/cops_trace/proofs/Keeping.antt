@@ -90,6 +90,10 @@ pub length-records_from : (h : Sessions) (earlier cs : List ℕ) → length (rec
 length-records_from h earlier [] = refl
 length-records_from h earlier (c ∷ cs) = ap suc (length-records_from h (earlier ++ c ∷ []) cs)
 
+pub clients-records_from : (h : Sessions) (earlier cs : List ℕ) → map (λ r. r.client) (records_from h earlier cs) ≡ cs
+clients-records_from h earlier [] = refl
+clients-records_from h earlier (c ∷ cs) = ap (λ ds. c ∷ ds) (clients-records_from h (earlier ++ c ∷ []) cs)
+
 pub turn-records_from : (h : Sessions) (d : ℕ) (earlier cs : List ℕ) → turn d (records_from h earlier cs) ≡ times d cs
 turn-records_from h d earlier [] = refl
 turn-records_from h d earlier (c ∷ cs) =

@@ -29,10 +29,18 @@ words ReadFailed = None
 words (TooLong offset) = Some (codes "too long", offset)
 words (NotARecord offset) = Some (codes "not a record", offset)
 
-abbrev pub line_of : Option (List ℕ × ℕ) → List ℕ
+-- what is wrong, and where
+abbrev pub place_text : List ℕ → ℕ → List ℕ
+place_text text offset = text ⧺ codes " at " ⧺ decimal offset
+
+-- what is wrong and where, or nothing for a fault that is not the input's
+abbrev pub fault_text : TraceFault → Option (List ℕ)
+fault_text e = option_map (λ p. place_text p.0 p.1) (words e)
+
+abbrev pub line_of : Option (List ℕ) → List ℕ
 line_of None = []
-line_of (Some (text, offset)) = codes "faulty: " ⧺ text ⧺ codes " at " ⧺ decimal offset ⧺ codes "\n"
+line_of (Some text) = codes "faulty: " ⧺ text ⧺ codes "\n"
 
 -- the line, or nothing for a fault that is not the input's
 abbrev pub fault_line : TraceFault → List ℕ
-fault_line e = line_of (words e)
+fault_line e = line_of (fault_text e)

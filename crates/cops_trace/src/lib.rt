@@ -23,7 +23,7 @@ mod writing;
 pub use converting::convert;
 pub use fault::{ConvertFault, FinishFault, TraceFault, WriteFault};
 pub use found::{Found, Item};
-pub use lines::fault_line;
+pub use lines::{fault_line, fault_text};
 pub use live::{LiveTrace, Unfinished};
 pub use reader::TraceReader;
 pub use reading::{read_into, read_so_far, read_trace};

@@ -1,11 +1,11 @@
 //! The printed line of a trace's fault.
-ghost use Rattle.std.specs.Prelude.{◌≡◌, ◌++◌, OnOk, OnErr, option_map};
-ghost use Rattle.cops_trace.specs.Lines.{wire_words, words, fault_line};
+ghost use Rattle.std.specs.Prelude.{◌≡◌, ◌++◌, IfOk, OnOk, OnErr, option_map, string_bytes};
+ghost use Rattle.cops_trace.specs.Lines.{wire_words, words, fault_line, fault_text};
 
 use crate::fault::TraceFault;
 use cops_types::Memory;
 use cops_wire::WireFault;
-use std::alloc::Global;
+use std::alloc::{AllocError, Global};
 
 fn wire_words(fault: WireFault) -> Option<&'static str>
     ensures { option_map (λ s. s.now) result ≡ wire_words fault }
@@ -41,16 +41,30 @@ fn words(fault: &TraceFault) -> Option<(&'static str, u64)>
     }
 }
 
+/// What is wrong and where, `WORDS at OFFSET`, or nothing for `Memory`, for `ReadFailed` and for a frame with the fault
+/// `Memory` or `Short`. Fails if memory runs out.
+pub fn fault_text(alloc: Global, fault: &TraceFault) -> Result<Option<String>, AllocError>
+    ensures { IfOk result (λ text. option_map string_bytes text ≡ fault_text fault.now) }
+{
+    match words(fault) {
+        Some((words, offset)) => {
+            let text = format!(in alloc; "{words} at {offset}")?;
+            Ok(Some(text))
+        }
+        None => Ok(None),
+    }
+}
+
 /// Appends the line of a fault, `faulty: WORDS at OFFSET`. Appends nothing for `Memory`, for `ReadFailed`, for a frame
 /// with the fault `Memory` or `Short`, and if memory runs out.
 pub fn fault_line(alloc: Global, fault: &TraceFault, out: &mut Vec<u8>) -> Result<(), Memory>
     ensures ok { OnOk result (out.new.items ≡ out.old.items ++ fault_line fault.now) }
     ensures err { OnErr result (out.new.items ≡ out.old.items) }
 {
-    let Some((words, offset)) = words(fault) else {
+    let Some(text) = fault_text(alloc, fault)? else {
         return Ok(());
     };
-    let line = format!(in alloc; "faulty: {words} at {offset}\n")?;
+    let line = format!(in alloc; "faulty: {text}\n")?;
     out.extend_from_slice(line.as_bytes())?;
     Ok(())
 }

@@ -40,7 +40,7 @@ impl Model for Trace {
 }
 
 impl Trace {
-    ghost use Rattle.std.specs.Prelude.{◌≡◌, ◌⊎◌, ◌+◌, ◌≤◌, ◌<◌, ◌↔◌, ℕ, List, [], ◌++◌, length, vec_len, vec_capacity, IsOk, OnOk, OnErr, IfOk, IfErr, IfSome, IsErrOf, IsTrue, is_some, ◌==◌};
+    ghost use Rattle.std.specs.Prelude.{◌≡◌, ◌⊎◌, ◌+◌, ◌≤◌, ◌<◌, ◌↔◌, ℕ, List, [], ◌++◌, length, map, vec_len, vec_capacity, IsOk, OnOk, OnErr, IfOk, IfErr, IfSome, IsErrOf, IsTrue, is_some, ◌==◌};
     ghost use Rattle.cops_types.specs.TypeFaults.{IsHistoryFault};
     ghost use Rattle.cops_trace.specs.Text.{IsTrace, beginning, sessions_of, turn};
     ghost use Rattle.cops_trace.specs.Writing.{CountPrefix, prefix};
@@ -185,6 +185,13 @@ impl Trace {
         ensures trace { IsTrace self.now }
     {
         self.arrivals.len()
+    }
+
+    /// The client of each operation, in order of arrival.
+    pub fn arrivals(&self) -> &[u16]
+        ensures { result.now ≡ map (λ r. r.client) self.now.records }
+    {
+        self.arrivals.as_slice()
     }
 
     /// Whether there is no operation.

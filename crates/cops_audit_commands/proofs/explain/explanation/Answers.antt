@@ -1,7 +1,7 @@
 use Rattle.std.proofs.Common.{subst}
 use Rattle.cops_types.specs.Histories.{Sessions}
 use Rattle.cops_audit.specs.Verdicts.{IsVerdict}
-use Rattle.cops_explain.specs.Explained.{IsExplained}
+use Rattle.cops_audit_commands.specs.Explain.{IsExplainedAs}
 use Rattle.cops_audit_commands.proofs.explain.explanation.Goals as goal
 
 pub returns-clause-reported : goal.returns-clause-reported
@@ -10,7 +10,7 @@ returns-clause-reported c =
     record {
       verdict = verdict;
       is_verdict = subst (λ (s : Sessions). IsVerdict s verdict) c.history-history.ensures.sessions c.in_ok-verdict.ensures.verdict;
-      is_explained = subst (λ (s : Sessions). IsExplained s verdict c.args.asked c.in_ok-text.text.items) c.history-history.ensures.sessions c.in_ok-text.ensures;
+      is_explained = subst (λ (s : Sessions). IsExplainedAs c.args.request.is_json (record { sessions = s; naming = c.args.naming.now }) verdict c.args.request.faults c.in_ok-text.text.items) c.history-history.ensures.sessions c.in_ok-text.ensures;
       answer_is = c.answer_of-answer.ensures;
     }
 
