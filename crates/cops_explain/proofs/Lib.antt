@@ -4,3 +4,4 @@ pub mod OtherLemmas
 pub mod TextLemmas
 pub mod Unique
 pub mod FaultsAt
+pub mod ContentLemmas

@@ -6,13 +6,14 @@ use Rattle.std.proofs.lemmas.List.{append-nil, drop_all}
 use Rattle.cops_types.specs.declared.op.OpName.{OpName}
 use Rattle.cops_types.specs.Histories.{Sessions}
 use Rattle.cops_report.specs.Chains.{IsChain, LeadsTo}
+use Rattle.cops_explain.specs.Naming.{ANamedHistory}
 use Rattle.cops_explain.specs.Steps.{known_by, step_line, step_lines}
 
 next : (names : List OpName) (i : ℕ) (d : OpName) → i < length names → drop i names ≡ get_or names i d ∷ drop (i + 1) names
 next names i d inside = rw add-one (drop-cons names i d inside)
 
 -- the line of one more step
-pub step_more : (h : Sessions) (names : List OpName) (i : ℕ) (d from : OpName) (whole old new : List ℕ) → i < length names → new ≡ old ++ step_line h from (get_or names i d)
+pub step_more : (h : ANamedHistory) (names : List OpName) (i : ℕ) (d from : OpName) (whole old new : List ℕ) → i < length names → new ≡ old ++ step_line h from (get_or names i d)
     → whole ≡ old ++ step_lines h from (drop i names) → whole ≡ new ++ step_lines h (get_or names i d) (drop (i + 1) names)
 step_more h names i d from whole old new inside line all =
     let to = get_or names i d in
@@ -23,7 +24,7 @@ step_more h names i d from whole old new inside line all =
     ∙ ap (λ (t : List ℕ). t ++ rest) (sym line)
 
 -- no more steps
-pub steps_end : (h : Sessions) (names : List OpName) (i : ℕ) (from : OpName) (whole old : List ℕ) → length names ≤ i → whole ≡ old ++ step_lines h from (drop i names) → old ≡ whole
+pub steps_end : (h : ANamedHistory) (names : List OpName) (i : ℕ) (from : OpName) (whole old : List ℕ) → length names ≤ i → whole ≡ old ++ step_lines h from (drop i names) → old ≡ whole
 steps_end h names i from whole old past all = sym (all ∙ ap (λ (ns : List OpName). old ++ step_lines h from ns) (drop_all i names past) ∙ append-nil old)
 
 entry_client : (a b : OpName) → (if a.client == b.client then a else b).client ≡ b.client

@@ -1,7 +1,6 @@
 -- The explanation of a verdict.
 use Rattle.std.specs.Prelude.{◌≡◌, ◌==◌, ◌+◌, ◌-◌, if◌then◌else◌, ℕ, zero, suc, List, [], ◌∷◌, ◌++◌, length, take, codes, decimal, Option, Some, None}
 use Rattle.cops_types.specs.Counts.{count_of, put_count}
-use Rattle.cops_types.specs.Histories.{Sessions}
 use Rattle.cops_types.specs.Texts.{◌⧺◌}
 use Rattle.cops_audit.specs.declared.verdict.Verdict.{Verdict}
 use Rattle.cops_audit.specs.declared.verdict.Verdict.TheVariants.{Accepted, Refused}
@@ -13,16 +12,17 @@ use Rattle.cops_types.specs.declared.selection.Selection.TheVariants.{First, All
 use Rattle.cops_explain.specs.declared.limits.TheConstants.{FIRST_FAULTS}
 use Rattle.cops_audit.specs.declared.fault.Fault.{Fault}
 use Rattle.cops_audit.specs.Faults.{fault_of_number, faults_of}
+use Rattle.cops_explain.specs.Naming.{ANamedHistory}
 use Rattle.cops_explain.specs.Paragraphs.{IsParagraph}
 
 -- a paragraph for each fault, numbered from this number on
-abbrev pub AreParagraphs : Sessions → ℕ → List Fault → List ℕ → Type 0
+abbrev pub AreParagraphs : ANamedHistory → ℕ → List Fault → List ℕ → Type 0
 AreParagraphs h number [] text = text ≡ []
 AreParagraphs h number (fault ∷ faults) text = (reported : List ℕ) × (rest : List ℕ)
     × IsParagraph h number fault reported × (text ≡ reported ++ rest) × AreParagraphs h (number + 1) faults rest
 
 -- the text gains the paragraphs of faults
-abbrev pub AddsParagraphs : Sessions → ℕ → List Fault → List ℕ → List ℕ → Type 0
+abbrev pub AddsParagraphs : ANamedHistory → ℕ → List Fault → List ℕ → List ℕ → Type 0
 AddsParagraphs h number faults old new = (reported : List ℕ) × AreParagraphs h number faults reported × (new ≡ old ++ reported)
 
 -- a count with its noun, after other words: the noun has an s unless the count is one
@@ -53,25 +53,25 @@ abbrev pub none_text : ℕ → List ℕ
 none_text number = codes "\nthere is no fault " ⧺ decimal number ⧺ codes "\n"
 
 -- the paragraph of the fault with a number, or that there is none
-abbrev pub ExplainsOne : Sessions → ℕ → Option Fault → List ℕ → Type 0
+abbrev pub ExplainsOne : ANamedHistory → ℕ → Option Fault → List ℕ → Type 0
 ExplainsOne h number (Some fault) text = IsParagraph h number fault text
 ExplainsOne h number None text = text ≡ none_text number
 
 -- the explanation of the faults that are asked for
-abbrev pub ExplainsAsked : Sessions → List Fault → Selection → List ℕ → Type 0
+abbrev pub ExplainsAsked : ANamedHistory → List Fault → Selection → List ℕ → Type 0
 ExplainsAsked h faults First text = (reported : List ℕ)
     × AreParagraphs h 1 (take FIRST_FAULTS faults) reported × (text ≡ reported ++ more_text (length faults - FIRST_FAULTS))
 ExplainsAsked h faults All text = AreParagraphs h 1 faults text
 ExplainsAsked h faults (One number) text = ExplainsOne h number (fault_of_number faults number) text
 
 -- the text gains the explanation of the faults that are asked for
-abbrev pub AddsAsked : Sessions → List Fault → Selection → List ℕ → List ℕ → Type 0
+abbrev pub AddsAsked : ANamedHistory → List Fault → Selection → List ℕ → List ℕ → Type 0
 AddsAsked h faults asked old new = (reported : List ℕ) × ExplainsAsked h faults asked reported × (new ≡ old ++ reported)
 
 -- for an accepted history the line of the report; otherwise the numbers of operations, puts and faults, the explanation of the faults that are asked
 -- for, and the classes that were not looked for
-abbrev pub IsExplained : Sessions → Verdict → Selection → List ℕ → Type 0
-IsExplained h (Accepted puts) asked text = text ≡ accepted_line (count_of h) (put_count h)
+abbrev pub IsExplained : ANamedHistory → Verdict → Selection → List ℕ → Type 0
+IsExplained h (Accepted puts) asked text = text ≡ accepted_line (count_of h.sessions) (put_count h.sessions)
 IsExplained h (Refused faults) asked text = (reported : List ℕ)
     × ExplainsAsked h (faults_of faults) asked reported
-    × (text ≡ first_line (count_of h) (put_count h) (length (faults_of faults)) ⧺ reported ⧺ later_text faults)
+    × (text ≡ first_line (count_of h.sessions) (put_count h.sessions) (length (faults_of faults)) ⧺ reported ⧺ later_text faults)

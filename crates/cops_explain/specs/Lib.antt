@@ -1,5 +1,8 @@
 pub mod LineNames
 pub mod Naming
+pub mod Indexed
+pub mod Contents
+pub mod Names
 pub mod Operations
 pub mod Others
 pub mod Steps

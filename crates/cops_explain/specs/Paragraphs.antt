@@ -1,8 +1,8 @@
 -- The paragraph of a fault.
 use Rattle.std.specs.Prelude.{◌≡◌, ◌-◌, ℕ, zero, suc, List, [], ◌∷◌, ◌++◌, ◌==◌, if◌then◌else◌, length, take, codes, decimal, Option, Some, None}
 use Rattle.cops_types.specs.declared.op.OpName.{OpName}
-use Rattle.cops_types.specs.Histories.{Sessions, Operation, read, missed, op_at}
-use Rattle.cops_types.specs.Texts.{◌⧺◌, name_text}
+use Rattle.cops_types.specs.Histories.{Operation, read, missed, op_at}
+use Rattle.cops_types.specs.Texts.{◌⧺◌}
 use Rattle.cops_audit.specs.declared.verdict.NotAbove.{NotAbove as ANotAbove}
 use Rattle.cops_audit.specs.declared.verdict.Stale.{Stale as AStale}
 use Rattle.cops_report.specs.Chains.{IsFirstChain}
@@ -10,17 +10,20 @@ use Rattle.cops_explain.specs.declared.causes.TheConstants.{DOUBLED, NO_SOURCE, 
 use Rattle.cops_explain.specs.declared.limits.TheConstants.{MOST_OTHERS}
 use Rattle.cops_audit.specs.declared.fault.Fault.{Fault}
 use Rattle.cops_audit.specs.declared.fault.Fault.TheVariants.{Doubled, NoSource, NotAbove, Stale}
+use Rattle.cops_explain.specs.declared.contents.Form.TheVariants.{Readable}
+use Rattle.cops_explain.specs.Names.{fault_text, name_text}
+use Rattle.cops_explain.specs.Naming.{ANamedHistory}
 use Rattle.cops_explain.specs.Operations.{act_text, reported_line, reported_lines, reported_text}
 use Rattle.cops_explain.specs.Others.{AreOthers}
 use Rattle.cops_explain.specs.Steps.{chain_text, known_by}
 
--- after an empty line: fault 1: stale (1,1)
-abbrev pub title : ℕ → List ℕ → OpName → List ℕ
-title number class name = codes "\nfault " ⧺ decimal number ⧺ codes ": " ⧺ class ⧺ codes " " ⧺ name_text name ⧺ codes "\n"
+-- what an operation is called in a paragraph
+abbrev pub called : ANamedHistory → OpName → List ℕ
+called h name = name_text Readable h.naming name
 
--- the title, the operation, and what is said about it
-abbrev pub fault_head : Sessions → ℕ → List ℕ → OpName → List ℕ → List ℕ
-fault_head h number class name words = title number class name ⧺ reported_line h name ⧺ words
+-- after an empty line: fault 1: stale (1,1)
+abbrev pub title : ANamedHistory → ℕ → Fault → List ℕ
+title h number fault = codes "\nfault " ⧺ decimal number ⧺ codes ": " ⧺ fault_text Readable h.naming fault ⧺ codes "\n"
 
 -- how many more puts have a version, if any do
 abbrev pub more_others : ℕ → List ℕ
@@ -28,35 +31,30 @@ more_others zero = []
 more_others (suc more) = codes "and " ⧺ decimal (suc more) ⧺ codes " more of that version\n"
 
 -- a line for each of the first puts with a version, and how many more there are
-abbrev pub others_text : Sessions → List OpName → List ℕ
+abbrev pub others_text : ANamedHistory → List OpName → List ℕ
 others_text h others = reported_lines h (take MOST_OTHERS others) ⧺ more_others (length others - MOST_OTHERS)
 
 -- a put, and the others with its version
-abbrev pub doubled_text : Sessions → ℕ → OpName → List OpName → List ℕ
-doubled_text h number name others =
-    fault_head h number (codes "doubled") name (codes "no other put may have that version, and these do:\n") ⧺ others_text h others ⧺ DOUBLED.now
+abbrev pub doubled_text : ANamedHistory → OpName → List OpName → List ℕ
+doubled_text h name others = reported_line h name ⧺ codes "no other put may have that version, and these do:\n" ⧺ others_text h others
 
 -- the puts with the version that a get without a source returned
-abbrev pub holders_text : Sessions → List OpName → List ℕ
+abbrev pub holders_text : ANamedHistory → List OpName → List ℕ
 holders_text h [] = codes "no put has that version\n"
 holders_text h (put ∷ puts) = codes "of that version there is:\n" ⧺ others_text h (put ∷ puts)
 
 -- a get, and the puts with the version that it returned, whose keys or values differ
-abbrev pub no_source_text : Sessions → ℕ → OpName → List OpName → List ℕ
-no_source_text h number name holders =
-    fault_head h number (codes "no source") name (codes "no put of the trace has that key, value and version\n") ⧺ holders_text h holders ⧺ NO_SOURCE.now
+abbrev pub no_source_text : ANamedHistory → OpName → List OpName → List ℕ
+no_source_text h name holders = reported_line h name ⧺ codes "no put has that key, value and version\n" ⧺ holders_text h holders
 
 -- a put, and the first operation before it whose version it is not above
-abbrev pub not_above_text : Sessions → ℕ → ANotAbove → List ℕ
-not_above_text h number fault =
-    fault_head h number (codes "not above") fault.op (codes "its version is not above that of what its client did before:\n")
-    ⧺ reported_line h fault.earlier ⧺ NOT_ABOVE.now
+abbrev pub not_above_text : ANamedHistory → ANotAbove → List ℕ
+not_above_text h fault =
+    reported_line h fault.op ⧺ codes "its version is not above that of what its client did before:\n" ⧺ reported_line h fault.earlier
 
 -- a get, and the newer put that it had to know of
-abbrev pub stale_head : Sessions → ℕ → AStale → List ℕ
-stale_head h number fault =
-    title number (codes "stale") fault.op ⧺ act_text h fault.op
-    ⧺ codes ", though it had to know of the newer put " ⧺ name_text fault.newer ⧺ codes "\n"
+abbrev pub stale_head : ANamedHistory → AStale → List ℕ
+stale_head h fault = act_text Readable h fault.op ⧺ codes ", though it had to know of the newer put " ⧺ called h fault.newer ⧺ codes "\n"
 
 -- what a stale get returned
 abbrev pub stale_return : Option Operation → List ℕ
@@ -65,38 +63,49 @@ stale_return (Some (read key None version)) = codes "an older deletion"
 stale_return _ = codes "an older put"
 
 -- how the client of a stale get knew of the newer put: the put is its own, or it came to know of it by this operation
-abbrev pub known_text : AStale → OpName → List ℕ
-known_text fault by =
-    if fault.newer.client == fault.op.client then codes "the newer put " ⧺ name_text fault.newer ⧺ codes " is its client's own\n"
-    else codes "its client knew of the newer put by " ⧺ name_text by ⧺ codes "\n"
+abbrev pub known_text : ANamedHistory → AStale → OpName → List ℕ
+known_text h fault by =
+    if fault.newer.client == fault.op.client then codes "the newer put " ⧺ called h fault.newer ⧺ codes " is its client's own\n"
+    else codes "its client knew of the newer put by " ⧺ called h by ⧺ codes "\n"
 
 -- the operation to look at, and what it returned
-abbrev pub returned_text : Sessions → OpName → List ℕ
-returned_text h name = codes "look at: " ⧺ name_text name ⧺ codes ", which returned " ⧺ stale_return (op_at h name) ⧺ codes "; "
-
--- where to look: the stale get, what it returned, and how its client knew of the newer put
-abbrev pub place_text : Sessions → AStale → OpName → List ℕ
-place_text h fault by = returned_text h fault.op ⧺ known_text fault by
+abbrev pub returned_text : ANamedHistory → OpName → List ℕ
+returned_text h name = codes "look at: " ⧺ called h name ⧺ codes ", which returned " ⧺ stale_return (op_at h.sessions name) ⧺ codes "; "
 
 -- what it should have returned
-abbrev pub right_text : Sessions → OpName → List ℕ
-right_text h newer = codes "should have returned: " ⧺ reported_text h newer ⧺ codes ", or a newer put\n"
+abbrev pub right_text : ANamedHistory → OpName → List ℕ
+right_text h newer = codes "should have returned: " ⧺ reported_text Readable h newer ⧺ codes ", or a newer put\n"
 
--- what it should have returned, where to look, and what usually causes the fault
-abbrev pub stale_end : Sessions → AStale → List OpName → List ℕ
-stale_end h fault chain = right_text h fault.newer ⧺ place_text h fault (known_by fault.newer chain) ⧺ STALE.now
+-- what it should have returned, and where to look: the stale get, what it returned, and how its client knew of the newer put
+abbrev pub stale_end : ANamedHistory → AStale → OpName → List ℕ
+stale_end h fault by = right_text h fault.newer ⧺ returned_text h fault.op ⧺ known_text h fault by
 
--- the whole paragraph of a stale get, with the chain by which the put came to be known
-abbrev pub stale_text : Sessions → ℕ → AStale → List OpName → List ℕ
-stale_text h number fault chain = stale_head h number fault ⧺ chain_text h chain ⧺ stale_end h fault chain
+-- a stale get, with the chain by which the put came to be known
+abbrev pub stale_text : ANamedHistory → AStale → List OpName → List ℕ
+stale_text h fault chain = stale_head h fault ⧺ chain_text h chain ⧺ stale_end h fault (known_by fault.newer chain)
 
--- the paragraph of a fault, by its class
-abbrev pub IsParagraph : Sessions → ℕ → Fault → List ℕ → Type 0
-IsParagraph h number (Doubled name) text = (others : List OpName) × AreOthers h name others × (text ≡ doubled_text h number name others)
-IsParagraph h number (NoSource name) text = (holders : List OpName) × AreOthers h name holders × (text ≡ no_source_text h number name holders)
-IsParagraph h number (NotAbove fault) text = text ≡ not_above_text h number fault
-IsParagraph h number (Stale fault) text = (chain : List OpName) × IsFirstChain h fault.newer fault.op chain × (text ≡ stale_text h number fault chain)
+-- what shows a fault, by its class
+abbrev pub Shows : ANamedHistory → Fault → List ℕ → Type 0
+Shows h (Doubled name) text = (others : List OpName) × AreOthers h.sessions name others × (text ≡ doubled_text h name others)
+Shows h (NoSource name) text = (holders : List OpName) × AreOthers h.sessions name holders × (text ≡ no_source_text h name holders)
+Shows h (NotAbove fault) text = text ≡ not_above_text h fault
+Shows h (Stale fault) text = (chain : List OpName) × IsFirstChain h.sessions fault.newer fault.op chain × (text ≡ stale_text h fault chain)
+
+-- what usually causes the faults of a class
+abbrev pub cause_text : Fault → List ℕ
+cause_text (Doubled name) = DOUBLED.now
+cause_text (NoSource name) = NO_SOURCE.now
+cause_text (NotAbove fault) = NOT_ABOVE.now
+cause_text (Stale fault) = STALE.now
+
+-- the paragraph of a fault: its title, what shows it, and what usually causes it
+abbrev pub IsParagraph : ANamedHistory → ℕ → Fault → List ℕ → Type 0
+IsParagraph h number fault text = (shown : List ℕ) × Shows h fault shown × (text ≡ title h number fault ⧺ shown ⧺ cause_text fault)
+
+-- the text gains what shows a fault
+abbrev pub AddsShown : ANamedHistory → Fault → List ℕ → List ℕ → Type 0
+AddsShown h fault old new = (shown : List ℕ) × Shows h fault shown × (new ≡ old ++ shown)
 
 -- the text gains the paragraph of one fault
-abbrev pub AddsParagraph : Sessions → ℕ → Fault → List ℕ → List ℕ → Type 0
+abbrev pub AddsParagraph : ANamedHistory → ℕ → Fault → List ℕ → List ℕ → Type 0
 AddsParagraph h number fault old new = (reported : List ℕ) × IsParagraph h number fault reported × (new ≡ old ++ reported)

@@ -4,26 +4,32 @@ ghost use Rattle.cops_explain.specs.Pictures.{Extends};
 ghost use Rattle.cops_explain.specs.declared.sizes.TheConstants.{MAX_COLUMNS};
 
 use crate::columns::{Column, Role};
+use crate::contents::Form;
 use crate::layout::{Card, CardPlace, lane_top};
-use crate::lines::{act_line, left_out_line, name_line, value_line};
+use crate::lines::{CardLines, left_out_line};
+use crate::names::{push_client, push_fault};
+use crate::naming::{NamedHistory, Naming};
 use crate::operation::push_reported;
 use crate::sentence::sentence;
 use crate::sizes::{
-    ACT_BASE, CARD_HEIGHT, CORNER, HEAD_BASE, LANE_BASE, LANE_LEFT, MARGIN, NAME_BASE,
-    SENTENCE_BASE, VALUE_BASE,
+    ACT_BASE, CARD_HEIGHT, CORNER, HEAD_BASE, LANE_BASE, MARGIN, NAME_BASE, SENTENCE_BASE,
+    VALUE_BASE,
 };
 use crate::style::{STYLE, TIPS};
 use cops_audit::Fault;
-use cops_types::{History, OpName, OpRef};
+use cops_types::OpName;
 use std::alloc::{AllocError, Global};
 
-/// The CSS class of a card, which decides its style.
-fn class_of(role: Role) -> &'static str {
-    match role {
-        Role::Plain => "card",
-        Role::Newer => "card newer",
-        Role::Returned => "card returned",
-        Role::AtFault => "card fault",
+/// The CSS class of a column's card, which decides its style.
+fn class_of(column: Column) -> &'static str {
+    match column {
+        Column::Operation { role, .. } => match role {
+            Role::Plain => "card",
+            Role::Newer => "card newer",
+            Role::Returned => "card returned",
+            Role::AtFault => "card fault",
+        },
+        Column::LeftOut(_) => "left",
     }
 }
 
@@ -45,60 +51,53 @@ pub fn push_page(out: &mut String, width: u32, height: u32) -> Result<(), AllocE
 }
 
 /// Writes the fault, and what it means.
-pub fn push_head(out: &mut String, history: &History, fault: Fault) -> Result<(), AllocError>
+pub fn push_head(out: &mut String, named: NamedHistory<'_>, fault: Fault) -> Result<(), AllocError>
     ensures { OnOk result (Extends (string_bytes out.old) (string_bytes out.new)) }
 {
-    let sentence = sentence(history, fault);
+    let sentence = sentence(named.history, fault);
     write!(
         out,
-        "<text class=\"head\" x=\"{MARGIN}\" y=\"{HEAD_BASE}\">{fault}</text>\n"
+        "<text class=\"head\" x=\"{MARGIN}\" y=\"{HEAD_BASE}\">"
     )?;
+    push_fault(out, Form::Short, named.naming, fault)?;
     write!(
         out,
-        "<text class=\"small\" x=\"{MARGIN}\" y=\"{SENTENCE_BASE}\">{sentence}</text>\n"
+        "</text>\n<text class=\"small\" x=\"{MARGIN}\" y=\"{SENTENCE_BASE}\">{sentence}</text>\n"
     )
 }
 
-/// Draws a lane for each client, up to the right end of the picture.
-pub fn push_lanes(out: &mut String, clients: &[u16], right: u32) -> Result<(), AllocError>
+/// Draws a lane for each client, from `left` up to the right end of the picture.
+pub fn push_lanes(
+    out: &mut String,
+    naming: &Naming,
+    clients: &[u16],
+    left: u32,
+    right: u32,
+) -> Result<(), AllocError>
     requires { length clients.now ≤ MAX_COLUMNS }
     ensures { OnOk result (Extends (string_bytes out.old) (string_bytes out.new)) }
 {
     for (lane, client) in clients.iter().enumerate() {
         let middle = lane_top(lane) + CARD_HEIGHT / 2;
         let base = middle + LANE_BASE;
+        write!(out, "<text x=\"{MARGIN}\" y=\"{base}\">")?;
+        push_client(out, Form::Short, naming, *client)?;
         write!(
             out,
-            "<text x=\"{MARGIN}\" y=\"{base}\">client {client}</text>\n"
-        )?;
-        write!(
-            out,
-            "<path class=\"lane\" d=\"M{LANE_LEFT} {middle}H{right}\"/>\n"
+            "</text>\n<path class=\"lane\" d=\"M{left} {middle}H{right}\"/>\n"
         )?;
     }
     Ok(())
 }
 
 /// Draws the lines of an operation's card, which has this width.
-fn push_lines(
-    alloc: Global,
-    out: &mut String,
-    width: u32,
-    name: OpName,
-    op: OpRef<'_>,
-) -> Result<(), AllocError>
+fn push_lines(out: &mut String, width: u32, lines: &CardLines) -> Result<(), AllocError>
     ensures { OnOk result (Extends (string_bytes out.old) (string_bytes out.new)) }
 {
     let center = width / 2;
-    push_line(out, center, ACT_BASE, "", act_line(alloc, op)?)?;
-    push_line(out, center, VALUE_BASE, "", value_line(alloc, op)?)?;
-    push_line(
-        out,
-        center,
-        NAME_BASE,
-        " class=\"small\"",
-        name_line(alloc, name, op)?,
-    )
+    push_line(out, center, ACT_BASE, "", &lines.act)?;
+    push_line(out, center, VALUE_BASE, "", &lines.value)?;
+    push_line(out, center, NAME_BASE, " class=\"small\"", &lines.name)
 }
 
 /// Begins a card, inside which positions are relative to its upper left corner.
@@ -124,27 +123,26 @@ fn push_border(out: &mut String, card: Card) -> Result<(), AllocError>
     )
 }
 
-/// Draws the card of an operation, with the full text of the operation as its title.
+/// Draws what is in the card of an operation, with the full text of the operation as its title.
 fn push_card(
     alloc: Global,
     out: &mut String,
-    history: &History,
+    named: NamedHistory<'_>,
     card: Card,
     name: OpName,
-    role: Role,
 ) -> Result<(), AllocError>
     ensures { OnOk result (Extends (string_bytes out.old) (string_bytes out.new)) }
 {
-    let Some(op) = history.op(name) else {
+    let Some(op) = named.history.op(name) else {
         return Ok(());
     };
-    push_start(out, class_of(role), card)?;
+    let lines = CardLines::new(alloc, named.naming, name, op)?;
     out.push_str("<title>")?;
-    push_reported(out, history, name)?;
+    push_reported(out, Form::Escaped, named, name)?;
     out.push_str("</title>")?;
     push_border(out, card)?;
-    push_lines(alloc, out, card.width, name, op)?;
-    out.push_str("</g>\n")
+    push_lines(out, card.width, &lines)?;
+    Ok(())
 }
 
 /// Draws a line of a card.
@@ -153,7 +151,7 @@ fn push_line(
     center: u32,
     base: u32,
     class: &str,
-    line: String,
+    line: &str,
 ) -> Result<(), AllocError>
     ensures { OnOk result (Extends (string_bytes out.old) (string_bytes out.new)) }
 {
@@ -172,15 +170,26 @@ fn push_left_out(
 ) -> Result<(), AllocError>
     ensures { OnOk result (Extends (string_bytes out.old) (string_bytes out.new)) }
 {
-    push_start(out, "left", card)?;
+    let line = left_out_line(alloc, count)?;
     push_border(out, card)?;
-    push_line(
-        out,
-        card.width / 2,
-        VALUE_BASE,
-        "",
-        left_out_line(alloc, count)?,
-    )?;
+    push_line(out, card.width / 2, VALUE_BASE, "", &line)
+}
+
+/// Draws the card of a column.
+fn push_place(
+    alloc: Global,
+    out: &mut String,
+    named: NamedHistory<'_>,
+    place: CardPlace,
+) -> Result<(), AllocError>
+    ensures { OnOk result (Extends (string_bytes out.old) (string_bytes out.new)) }
+{
+    let card = place.card;
+    push_start(out, class_of(place.column), card)?;
+    match place.column {
+        Column::Operation { name, .. } => push_card(alloc, out, named, card, name)?,
+        Column::LeftOut(count) => push_left_out(alloc, out, card, count)?,
+    }
     out.push_str("</g>\n")
 }
 
@@ -188,18 +197,13 @@ fn push_left_out(
 pub fn push_cards(
     alloc: Global,
     out: &mut String,
-    history: &History,
+    named: NamedHistory<'_>,
     places: &[CardPlace],
 ) -> Result<(), AllocError>
     ensures { OnOk result (Extends (string_bytes out.old) (string_bytes out.new)) }
 {
     for place in places {
-        match place.column {
-            Column::Operation { name, role } => {
-                push_card(alloc, out, history, place.card, name, role)?;
-            }
-            Column::LeftOut(count) => push_left_out(alloc, out, place.card, count)?,
-        }
+        push_place(alloc, out, named, *place)?;
     }
     Ok(())
 }

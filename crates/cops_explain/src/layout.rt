@@ -1,9 +1,11 @@
 //! Where the columns are drawn.
 ghost use Rattle.std.specs.Prelude.{◌+◌, ◌≤◌, ◌<◌, ◌^◌, IfOk, OnOk, length, vec_len};
-ghost use Rattle.cops_explain.specs.declared.sizes.TheConstants.{MAX_COLUMNS, MAX_WIDTH};
+ghost use Rattle.cops_explain.specs.declared.sizes.TheConstants.{MAX_COLUMNS, MAX_LANE_LEFT, MAX_WIDTH};
 
 use crate::columns::Column;
-use crate::sizes::{CARD_HEIGHT, FIRST_LEFT, FIRST_TOP, GAP, LANE_STEP, MAX_COLUMNS, MAX_WIDTH};
+use crate::sizes::{
+    CARD_HEIGHT, FIRST_TOP, GAP, LANE_START, LANE_STEP, MAX_COLUMNS, MAX_LANE_LEFT, MAX_WIDTH,
+};
 use std::alloc::{AllocError, Global};
 
 /// A card, in which an operation is described: its left and upper ends and its width, in pixels.
@@ -27,16 +29,17 @@ pub fn lane_top(lane: usize) -> u32
 
 impl Card {
     ghost use Rattle.std.specs.Prelude.{◌≤◌, ◌<◌, ◌^◌};
-    ghost use Rattle.cops_explain.specs.declared.sizes.TheConstants.{MAX_COLUMNS, MAX_WIDTH};
+    ghost use Rattle.cops_explain.specs.declared.sizes.TheConstants.{MAX_COLUMNS, MAX_LANE_LEFT, MAX_WIDTH};
 
-    /// The card of a column in a lane, both counted from 0.
-    fn new(width: u32, column: usize, lane: usize) -> Self
+    /// The card of a column in a lane, both counted from 0, where the lines of lanes begin at `left`.
+    fn new(left: u32, width: u32, column: usize, lane: usize) -> Self
+        requires left { left ≤ MAX_LANE_LEFT }
         requires width { width ≤ MAX_WIDTH }
         requires column { column ≤ MAX_COLUMNS }
         requires lane { lane ≤ MAX_COLUMNS }
     {
         Card {
-            left: FIRST_LEFT + (width + GAP) * column as u32,
+            left: left + LANE_START + (width + GAP) * column as u32,
             top: lane_top(lane),
             width,
         }
@@ -112,14 +115,16 @@ fn lane_of(clients: &[u16], client: u16) -> usize
         .unwrap_or(0)
 }
 
-/// The columns with their cards, of this width. Operations that are left out are in the lane of the operation before
-/// them.
+/// The columns with their cards, of this width, where the lines of lanes begin at `left`. Operations that are left out
+/// are in the lane of the operation before them.
 pub fn places_of(
     alloc: Global,
     columns: &[Column],
     clients: &[u16],
+    left: u32,
     width: u32,
 ) -> Result<Vec<CardPlace>, AllocError>
+    requires left { left ≤ MAX_LANE_LEFT }
     requires width { width ≤ MAX_WIDTH }
     requires columns { length columns.now ≤ MAX_COLUMNS }
     requires clients { length clients.now ≤ MAX_COLUMNS }
@@ -131,7 +136,7 @@ pub fn places_of(
         if let Column::Operation { name, .. } = column {
             lane = lane_of(clients, name.client);
         }
-        let card = Card::new(width, index, lane);
+        let card = Card::new(left, width, index, lane);
         places.push(CardPlace { column, card })?;
     }
     Ok(places)

@@ -7,13 +7,16 @@
 
 mod causes;
 mod columns;
+mod contents;
 mod drawing;
 mod explaining;
+mod indexed;
 mod laws;
 mod layout;
 mod limits;
 mod lines;
 mod links;
+mod names;
 mod naming;
 mod operation;
 mod others;

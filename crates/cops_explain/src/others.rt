@@ -1,12 +1,13 @@
 //! The other puts with an operation's version.
 ghost use Rattle.std.specs.Prelude.{◌≡◌, ◌↔◌, Contains, IfOk, IsTrue};
 ghost use Rattle.cops_types.specs.declared.op.OpName.{OpName};
-ghost use Rattle.cops_report.specs.Puts.{HasAllPuts};
 ghost use Rattle.cops_report.specs.Reports.{HasSomeVersion, version_at};
+ghost use Rattle.cops_explain.specs.Indexed.{IsIndexed, history_of};
 ghost use Rattle.cops_explain.specs.Others.{AreOthers, IsOther};
 
+use crate::indexed::Indexed;
 use cops_report::{from_version, version_at};
-use cops_types::{History, OpName, Version, VersionedPut};
+use cops_types::{History, OpName, Version};
 use std::alloc::{AllocError, Global};
 
 /// Whether `other` is another put with an operation's version.
@@ -20,20 +21,16 @@ fn is_other(history: &History, name: OpName, version: Version, other: OpName) ->
     }
 }
 
-/// The other puts with an operation's version, in the order of `puts`.
-fn holders(
-    alloc: Global,
-    history: &History,
-    puts: &[VersionedPut],
-    name: OpName,
-) -> Result<Vec<OpName>, AllocError>
-    requires puts { HasAllPuts history.now.sessions puts.now }
-    requires version { HasSomeVersion history.now.sessions name }
-    ensures { IfOk result (λ names. (n : OpName) → Contains names.items n ↔ IsOther history.now.sessions name n) }
+/// The other puts with an operation's version, in the order of the puts.
+fn holders(alloc: Global, indexed: Indexed<'_>, name: OpName) -> Result<Vec<OpName>, AllocError>
+    requires puts { IsIndexed indexed }
+    requires version { HasSomeVersion (history_of indexed).sessions name }
+    ensures { IfOk result (λ names. (n : OpName) → Contains names.items n ↔ IsOther (history_of indexed.entry).sessions name n) }
 {
+    let history = indexed.named.history;
     let version = version_at(history, name);
     let mut names = Vec::new(alloc);
-    for put in from_version(puts, version) {
+    for put in from_version(indexed.puts, version) {
         if put.version != version {
             return Ok(names);
         }
@@ -44,18 +41,13 @@ fn holders(
     Ok(names)
 }
 
-/// The other puts with an operation's version, in order of names. `puts` are all puts, in order of versions.
-pub fn others(
-    alloc: Global,
-    history: &History,
-    puts: &[VersionedPut],
-    name: OpName,
-) -> Result<Vec<OpName>, AllocError>
-    requires puts { HasAllPuts history.now.sessions puts.now }
-    requires version { HasSomeVersion history.now.sessions name }
-    ensures { IfOk result (λ names. AreOthers history.now.sessions name names.items) }
+/// The other puts with an operation's version, in order of names.
+pub fn others(alloc: Global, indexed: Indexed<'_>, name: OpName) -> Result<Vec<OpName>, AllocError>
+    requires puts { IsIndexed indexed }
+    requires version { HasSomeVersion (history_of indexed).sessions name }
+    ensures { IfOk result (λ names. AreOthers (history_of indexed.entry).sessions name names.items) }
 {
-    let mut names = holders(alloc, history, puts, name)?;
+    let mut names = holders(alloc, indexed, name)?;
     names.sort_unstable();
     names.dedup();
     Ok(names)

@@ -13,9 +13,12 @@ pub const MAX_COLUMNS: usize = 16;
 /// How many bytes of a key or a value are shown.
 pub const SHOWN_BYTES: usize = 16;
 
-/// The greatest number of characters in a line of a card: a word, bytes of three characters each, and the sign that
-/// there are more.
-pub const MAX_LINE: usize = 8 + 3 * SHOWN_BYTES + 2;
+/// The greatest number of characters of a lane's label: bytes of three characters each, and the sign that there are
+/// more.
+pub const MAX_LABEL: usize = 3 * SHOWN_BYTES + 2;
+
+/// The greatest number of characters in a line of a card: a version, a space, a client's name, `, line ` and a number.
+pub const MAX_LINE: usize = 21 + 1 + MAX_LABEL + 7 + 20;
 
 /// The least number of characters for which a card has room.
 pub const MIN_LINE: usize = 11;
@@ -37,9 +40,6 @@ pub const MARGIN: u32 = 16;
 
 /// The least right end of the cards, so that there is room for the picture's sentence.
 pub const MIN_RIGHT: u32 = 600;
-
-/// Where the first card begins, from the left.
-pub const FIRST_LEFT: u32 = 136;
 
 /// Where the first card begins, from above.
 pub const FIRST_TOP: u32 = 76;
@@ -71,8 +71,17 @@ pub const LANE_BASE: u32 = 4;
 /// The radius of a card's corners.
 pub const CORNER: u32 = 7;
 
-/// Where a lane's line begins, from the left.
+/// Where the lines of lanes begin at least, from the left.
 pub const LANE_LEFT: u32 = 120;
+
+/// The space from a lane's label to its line.
+pub const LABEL_GAP: u32 = 8;
+
+/// Where the lines of lanes begin at most, from the left.
+pub const MAX_LANE_LEFT: u32 = LANE_LEFT + CHARACTER * MAX_LABEL as u32;
+
+/// The space from the beginning of a lane's line to its first card.
+pub const LANE_START: u32 = 16;
 
 /// How far below the lowest lane the line from a returned put to its get begins to turn.
 pub const FOOT: u32 = 16;

@@ -1,21 +1,24 @@
 //! The chain of a stale get, step by step.
 ghost use Rattle.std.specs.Prelude.{◌≡◌, ◌==◌, ◌++◌, if◌then◌else◌, OnOk, string_bytes};
+ghost use Rattle.cops_explain.specs.Naming.{named_of};
 ghost use Rattle.cops_explain.specs.Steps.{chain_text, known_by, step_line, step_lines};
 
+use crate::contents::Form;
+use crate::naming::NamedHistory;
 use crate::operation::{push_line, push_reported};
-use cops_types::{History, OpName};
+use cops_types::OpName;
 use std::alloc::AllocError;
 
 /// Writes the line of an operation to which a step leads, with the kind of the step.
 fn push_step(
     out: &mut String,
-    history: &History,
+    named: NamedHistory<'_>,
     from: OpName,
     to: OpName,
 ) -> Result<(), AllocError>
-    ensures { OnOk result (string_bytes out.new ≡ string_bytes out.old ++ step_line history.now.sessions from to) }
+    ensures { OnOk result (string_bytes out.new ≡ string_bytes out.old ++ step_line (named_of named.entry) from to) }
 {
-    push_reported(out, history, to)?;
+    push_reported(out, Form::Readable, named, to)?;
     if from.client == to.client {
         out.push_str(": the same client's later operation\n")
     } else {
@@ -26,29 +29,33 @@ fn push_step(
 /// Writes the lines of the operations to which the steps lead, one after the other.
 fn push_steps(
     out: &mut String,
-    history: &History,
+    named: NamedHistory<'_>,
     from: OpName,
     names: &[OpName],
 ) -> Result<(), AllocError>
     ensures { OnOk result (string_bytes out.new
-        ≡ string_bytes out.old ++ step_lines history.now.sessions from names.now) }
+        ≡ string_bytes out.old ++ step_lines (named_of named.entry) from names.now) }
 {
     let mut from = from;
     for name in names {
-        push_step(out, history, from, *name)?;
+        push_step(out, named, from, *name)?;
         from = *name;
     }
     Ok(())
 }
 
 /// Writes the lines of a chain.
-pub fn push_chain(out: &mut String, history: &History, chain: &[OpName]) -> Result<(), AllocError>
-    ensures { OnOk result (string_bytes out.new ≡ string_bytes out.old ++ chain_text history.now.sessions chain.now) }
+pub fn push_chain(
+    out: &mut String,
+    named: NamedHistory<'_>,
+    chain: &[OpName],
+) -> Result<(), AllocError>
+    ensures { OnOk result (string_bytes out.new ≡ string_bytes out.old ++ chain_text (named_of named.entry) chain.now) }
 {
     match chain {
         [first, rest @ ..] => {
-            push_line(out, history, *first)?;
-            push_steps(out, history, *first, rest)
+            push_line(out, named, *first)?;
+            push_steps(out, named, *first, rest)
         }
         [] => Ok(()),
     }
