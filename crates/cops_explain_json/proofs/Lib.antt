@@ -1,0 +1,4 @@
+pub mod ByteMembers
+pub mod FaultLists
+pub mod NoFloats
+pub mod OneJson

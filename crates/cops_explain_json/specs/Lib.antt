@@ -1,0 +1,5 @@
+pub mod Objects
+pub mod Operations
+pub mod Faults
+pub mod Explanations
+pub mod Faulty
