@@ -2,7 +2,7 @@ pub mod Feeding
 pub mod Frames
 pub mod OneText
 pub mod Shown
-pub mod ExplainedText
+pub mod ReportedText
 pub mod ReportedSoFar
 pub mod Unique
 pub mod UniqueSoFar

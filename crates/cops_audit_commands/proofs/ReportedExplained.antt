@@ -16,7 +16,7 @@ use Rattle.cops_audit_commands.specs.Explain.{ExplainSays, IsDrawing, IsExplanat
 use Rattle.cops_audit_commands.specs.declared.audit.Answer.{Answer}
 use Rattle.cops_audit_commands.specs.declared.explain.Request.{Request}
 use Rattle.cops_audit_commands.specs.declared.audit.Answer.TheVariants.{Accepted}
-use Rattle.cops_audit_commands.proofs.ExplainedText.{accepted_is_convergent}
+use Rattle.cops_audit_commands.proofs.ReportedText.{accepted_is_convergent}
 
 -- a trace whose explanation is accepted has an accepted report
 as_reported : (t : ATrace) (v : Verdict) → Accepted ≡ answer_of v → IsVerdict (sessions_of t) v → (text : List ℕ) × IsReported t Accepted text

@@ -18,7 +18,7 @@ use Rattle.cops_audit_commands.specs.declared.audit.Answer.{Answer}
 use Rattle.cops_audit_commands.specs.declared.audit.Answer.TheVariants.{Accepted, Faulty}
 use Rattle.cops_audit_commands.specs.Audit.{AuditSays, IsReported}
 use Rattle.cops_audit_commands.specs.SoFar.{IsSoundSoFar, SaysSoFar, answer_so_far, cut_text}
-use Rattle.cops_audit_commands.proofs.ExplainedText.{accepted_is_convergent}
+use Rattle.cops_audit_commands.proofs.ReportedText.{accepted_is_convergent}
 
 -- what holds of an answer also holds where out of memory is reported as another fault
 pub or_fault : {T D E : Type 0} (r : Result T D) (e : E) (P : T → Type 0) → IfOk r P → IfOk (result_or r (Err e)) P

@@ -8,7 +8,7 @@ use Rattle.cops_types.specs.declared.selection.Selection.{Selection}
 use Rattle.cops_explain.proofs.Unique as explained
 use Rattle.cops_explain.specs.Naming.{ANamedHistory}
 use Rattle.cops_explain.specs.declared.naming.Naming.TheVariants.{Trace}
-use Rattle.cops_explain_json.proofs.Unique as json
+use Rattle.cops_explain_json.proofs.OneJson as json
 use Rattle.cops_audit.specs.Verdicts.{IsVerdict}
 use Rattle.cops_trace.specs.Text.{ATrace, sessions_of}
 use Rattle.cops_trace.proofs.Readings.{one_answer}

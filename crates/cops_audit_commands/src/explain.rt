@@ -59,7 +59,7 @@ fn drawn(
     request: Request,
 ) -> Result<Option<Vec<u8>>, Memory>
     requires { IsVerdict named.history.now.sessions verdict.now }
-    ensures drawn { request.is_drawn ≡ true → IfOk result (IsDrawn named.naming.now verdict.now (drawn_number request.faults)) }
+    ensures drawn { request.is_drawn ≡ true → IfOk result (IsDrawn named.entry.naming.now verdict.now (drawn_number request.faults)) }
     ensures none { request.is_drawn ≡ false → IfOk result (λ picture. picture ≡ None) }
 {
     if request.is_drawn {
@@ -70,14 +70,14 @@ fn drawn(
 }
 
 /// The explanation of a verdict, in words or as JSON.
-fn explained(
+fn text_of(
     alloc: Global,
     named: NamedHistory<'_>,
     verdict: &Verdict,
     request: Request,
 ) -> Result<Vec<u8>, Memory>
     requires { IsVerdict named.history.now.sessions verdict.now }
-    ensures { IfOk result (λ text. IsExplainedAs request.is_json (named_of named) verdict.now request.faults text.items) }
+    ensures { IfOk result (λ text. IsExplainedAs request.is_json (named_of named.entry) verdict.now request.faults text.items) }
 {
     if request.is_json {
         explain_json(alloc, named.history, named.naming, verdict, request.faults)
@@ -101,7 +101,7 @@ pub fn explanation(
     let history = trace.history();
     let named = NamedHistory { history, naming };
     let verdict = judge(alloc, history)?;
-    let text = explained(alloc, named, &verdict, request)?;
+    let text = text_of(alloc, named, &verdict, request)?;
     let picture = drawn(alloc, named, &verdict, request)?;
     let answer = answer_of(&verdict);
     Ok(ExplainedText {

@@ -28,6 +28,7 @@ mod steps;
 mod style;
 
 pub use explaining::explain;
+pub use indexed::Indexed;
 pub use laws::{known_by_its_client, one_explanation};
 pub use limits::{FIRST_FAULTS, MOST_OTHERS};
 pub use naming::{LineNames, NamedHistory, Naming};

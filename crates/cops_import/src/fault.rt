@@ -47,7 +47,7 @@ impl JsonLineFault {
     ghost use Rattle.cops_import.specs.Words.{words_of};
 
     /// The words of the fault, as they are printed.
-    fn words(self) -> &'static str
+    pub fn words(self) -> &'static str
         ensures { result.now ≡ words_of self }
     {
         match self {

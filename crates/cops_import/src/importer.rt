@@ -33,7 +33,7 @@ pub(crate) struct Importer<W: Write> {
 }
 
 /// The bytes before the first line feed, and those after it. Nothing if there is no line feed.
-fn cut_line(bytes: &[u8]) -> Option<(&[u8], &[u8])>
+pub fn cut_line(bytes: &[u8]) -> Option<(&[u8], &[u8])>
     ensures some { IfSome result (λ parts. IsWithin parts.0.now × (bytes.now ≡ parts.0.now ++ 10 ∷ parts.1.now)) }
     ensures none { IfNone result (IsWithin bytes.now) }
 {

@@ -17,6 +17,7 @@ mod reading;
 pub use count::count_clients;
 pub use fault::{ImportFault, JsonLineFault, faulty_line};
 pub use imported::{Imported, Unimported};
+pub use importer::cut_line;
 pub use laws::lines_determine_one;
 pub use line::is_blank;
 pub use name::Name;

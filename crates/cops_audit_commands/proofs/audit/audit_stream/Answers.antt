@@ -1,5 +1,5 @@
 use Rattle.cops_audit_commands.specs.Audit.{AuditSays}
-use Rattle.cops_audit_commands.proofs.ExplainedText.{accepted_encodes, reported_writes, reported_prefix}
+use Rattle.cops_audit_commands.proofs.ReportedText.{accepted_encodes, reported_writes, reported_prefix}
 use Rattle.cops_audit_commands.proofs.audit.audit_stream.Goals as goal
 
 pub returns-in-Ok-clause-ok : goal.returns-in-Ok-clause-ok

@@ -1,7 +1,7 @@
 use Rattle.cops_trace.specs.Answer.{AgreesInto}
 use Rattle.cops_audit_commands.specs.Audit.{AuditSays}
 use Rattle.cops_audit_commands.specs.Fed.{WasFed}
-use Rattle.cops_audit_commands.proofs.ExplainedText.{reported_of_bytes}
+use Rattle.cops_audit_commands.proofs.ReportedText.{reported_of_bytes}
 use Rattle.cops_audit_commands.proofs.audit.read_and_reported.Goals as goal
 
 pub returns-clause-says : goal.returns-clause-says

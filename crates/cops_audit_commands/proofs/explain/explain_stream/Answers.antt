@@ -1,6 +1,6 @@
 use Rattle.cops_trace.specs.Answer.{Agrees}
 use Rattle.cops_audit_commands.specs.Explain.{ExplainSays}
-use Rattle.cops_audit_commands.proofs.ExplainedText.{reported_writes, reported_prefix}
+use Rattle.cops_audit_commands.proofs.ReportedText.{reported_writes, reported_prefix}
 use Rattle.cops_audit_commands.proofs.ReportedExplained.{accepted_explained, picture_reported}
 use Rattle.cops_audit_commands.proofs.explain.explain_stream.Goals as goal
 

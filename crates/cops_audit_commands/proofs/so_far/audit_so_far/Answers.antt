@@ -1,7 +1,7 @@
 use Rattle.cops_trace.specs.Answer.{AgreesInto}
 use Rattle.cops_audit_commands.specs.Fed.{WasFed}
 use Rattle.cops_audit_commands.specs.SoFar.{SaysSoFar}
-use Rattle.cops_audit_commands.proofs.ExplainedText.{reported_writes, reported_prefix}
+use Rattle.cops_audit_commands.proofs.ReportedText.{reported_writes, reported_prefix}
 use Rattle.cops_audit_commands.proofs.ReportedSoFar.{accepted_sound}
 use Rattle.cops_audit_commands.proofs.so_far.audit_so_far.Goals as goal
 

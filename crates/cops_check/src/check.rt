@@ -1,0 +1,168 @@
+//! The check of lines.
+ghost use Rattle.std.specs.Prelude.{◌≡◌, ◌⊎◌, IfErr, IfOk, IfSome, IsErrOf, None, false, map, true};
+ghost use Rattle.std.specs.Io.KnownBytes.{Keeps};
+ghost use Rattle.cops_types.specs.Counted.{failures, inner};
+ghost use Rattle.cops_types.specs.Failures.{ReportsFailure};
+ghost use Rattle.cops_types.specs.declared.format.Format.TheVariants.{Two};
+ghost use Rattle.cops_import.specs.Faults.{IsFirstFaulty};
+ghost use Rattle.cops_import.specs.Imports.{IsImport};
+ghost use Rattle.cops_import.specs.Lines.{lines};
+ghost use Rattle.cops_audit_commands.specs.declared.audit.Answer.TheVariants as answer;
+ghost use Rattle.cops_explain.specs.declared.naming.Naming.TheVariants as naming;
+ghost use Rattle.cops_check.specs.Check.{CheckSays, DescribesConvergent, DrawingSays, WritesChecked, WritesPrefixChecked, wrong_text};
+ghost use Rattle.cops_check.specs.Numbers.{numbers_from, op_lines};
+
+use crate::fault::CheckFault;
+use crate::numbers::{line_numbers, op_lines};
+use cops_audit_commands::{Answer, Explained, ExplainedText, Request, explanation};
+use cops_command::read_all;
+use cops_explain::{LineNames, Naming};
+use cops_explain_json::faulty_json;
+use cops_import::{
+    ImportFault, Imported, JsonLineFault, Names, count_clients, faulty_line, import_stream,
+};
+use cops_trace::{Trace, read_trace};
+use cops_types::{Counted, Format, write_text};
+use std::alloc::{AllocError, Global};
+use std::io::{Read, Write};
+
+/// The names of clients, each at its client's number.
+fn copied(alloc: Global, names: &Names) -> Result<Vec<Vec<u8>>, AllocError>
+    ensures { IfOk result (λ copies. map (λ name. name.items) copies.items ≡ names.now) }
+{
+    let mut copies = Vec::new(alloc);
+    for client in 0..names.len() {
+        let mut copy = Vec::new(alloc);
+        copy.extend_from_slice(names.name(client).as_bytes())?;
+        copies.push(copy)?;
+    }
+    Ok(copies)
+}
+
+/// What the lines of a text call the operations of their trace, whose clients have these names.
+fn naming(alloc: Global, bytes: &[u8], names: &Names, trace: &Trace) -> Result<Naming, AllocError>
+    ensures { IfOk result (λ naming. naming ≡ naming.Lines (record {
+        names = names.now;
+        lines = op_lines trace.now.clients (map (λ r. r.client) trace.now.records) (numbers_from 1 (lines bytes.now));
+    })) }
+{
+    let numbers = line_numbers(alloc, bytes)?;
+    let lines = op_lines(alloc, trace.clients(), trace.arrivals(), &numbers)?;
+    let names = copied(alloc, names)?;
+    Ok(Naming::Lines(LineNames::new(names, lines)))
+}
+
+/// What is said of the lines of a text, of which this trace was imported.
+fn judged(
+    alloc: Global,
+    bytes: &[u8],
+    imported: Imported<Vec<u8>>,
+    request: Request,
+) -> Result<ExplainedText, CheckFault>
+    requires { IsImport Two bytes.now (Some []) (Some (inner imported.writer).items) imported.names imported.operations }
+    ensures says { IfOk result (λ reported. CheckSays request bytes.now reported.explained.answer reported.text.items) }
+    ensures drawn { request.is_drawn ≡ true → IfOk result (λ reported. DrawingSays request.faults bytes.now reported.explained.picture) }
+    ensures none { request.is_drawn ≡ false → IfOk result (λ reported. reported.explained.picture ≡ None) }
+    ensures faults { IfErr result (λ e. e ≡ CheckFault.Memory) }
+{
+    let Imported { names, writer, .. } = imported;
+    let text = writer.into_inner();
+    let trace = match read_trace(alloc, &mut Counted::new(text.as_slice())) {
+        Ok(trace) => trace,
+        // The text is a trace's, so no other fault is possible.
+        Err(_) => return Err(CheckFault::Memory),
+    };
+    drop(text);
+    let naming = naming(alloc, bytes, &names, &trace)?;
+    Ok(explanation(alloc, &trace, &naming, request)?)
+}
+
+/// What is said of a wrong line, in words or as JSON.
+fn wrong_text(
+    alloc: Global,
+    number: u64,
+    fault: JsonLineFault,
+    is_json: bool,
+) -> Result<Vec<u8>, AllocError>
+    ensures { IfOk result (λ text. text.items ≡ wrong_text is_json number fault) }
+{
+    if is_json {
+        return faulty_json(alloc, fault.words(), Some(number));
+    }
+    let line = faulty_line(alloc, number, fault)?;
+    let mut text = Vec::new(alloc);
+    text.extend_from_slice(line.as_bytes())?;
+    Ok(text)
+}
+
+/// What is said of the lines of a text, with the picture that is asked for.
+fn checked(alloc: Global, bytes: &[u8], request: Request) -> Result<ExplainedText, CheckFault>
+    ensures says { IfOk result (λ reported. CheckSays request bytes.now reported.explained.answer reported.text.items) }
+    ensures drawn { request.is_drawn ≡ true → IfOk result (λ reported. DrawingSays request.faults bytes.now reported.explained.picture) }
+    ensures none { request.is_drawn ≡ false → IfOk result (λ reported. reported.explained.picture ≡ None) }
+    ensures faults { IfErr result (λ e. (e ≡ CheckFault.Memory) ⊎ (e ≡ CheckFault.Changed)) }
+{
+    let clients = match count_clients(alloc, &mut Counted::new(bytes)) {
+        Ok(clients) => clients,
+        Err(fault) => return Err(CheckFault::of_import(fault)),
+    };
+    let trace = Counted::new(Vec::new(alloc));
+    match import_stream(alloc, Format::Two, clients, &mut Counted::new(bytes), trace) {
+        Ok(imported) => judged(alloc, bytes, imported, request),
+        Err(unimported) => match unimported.fault {
+            ImportFault::Line { number, fault } => Ok(ExplainedText {
+                explained: Explained {
+                    answer: Answer::Faulty,
+                    picture: None,
+                },
+                text: wrong_text(alloc, number, fault, request.is_json)?,
+            }),
+            fault => Err(CheckFault::of_import(fault)),
+        },
+    }
+}
+
+/// Reads JSON Lines to their end, judges the trace of format 2 that they describe by one worker, and returns the answer
+/// of its audit. It writes the text of `explain`, or of `explain_json`, for the faults that are asked for, with the
+/// clients' names and the lines' numbers for the operations, or what is wrong with the first wrong line, and nothing
+/// else. Where a picture is asked for, it also returns that of the one fault that is asked for, or of the first, if
+/// there is such a fault. Nothing is written before the input's end.
+///
+/// The errors: `ReadFailed` where a read failed, and `WriteFailed` where a write failed, neither of which is tried
+/// again; `Memory` where memory runs out; `Changed` where the lines name other clients than were counted. At the last
+/// two nothing is written.
+pub fn check_stream<R: Read, W: Write>(
+    alloc: Global,
+    lines: &mut Counted<R>,
+    writer: &mut Counted<W>,
+    request: Request,
+) -> Result<Explained, CheckFault>
+    // What is written is the explanation of the reader's lines.
+    ensures ok { IfOk result (λ explained. IfSome (R.remaining (inner lines.old)) (λ bytes.
+        WritesChecked request bytes explained.answer (W.contents (inner writer.old)) (W.contents (inner writer.new)))) }
+
+    // Where the answer is accepted, the lines describe one history, and it is causally convergent.
+    ensures accepted { IfOk result (λ explained. explained.answer ≡ answer.Accepted → IfSome (R.remaining (inner lines.old)) DescribesConvergent) }
+
+    // What is drawn is the picture of that fault, where it is to be drawn.
+    ensures drawn { request.is_drawn ≡ true → IfOk result (λ explained. IfSome (R.remaining (inner lines.old)) (λ bytes. DrawingSays request.faults bytes explained.picture)) }
+    ensures none { request.is_drawn ≡ false → IfOk result (λ explained. explained.picture ≡ None) }
+
+    // Where a write failed, a prefix of the text is written; on any other error nothing is.
+    ensures nothing { (IsErrOf result CheckFault.WriteFailed) ⊎ (Keeps (W.contents (inner writer.old)) (W.contents (inner writer.new))) ⊎ (IfErr result (λ e. ⊥)) }
+    ensures write_failed { IsErrOf result CheckFault.WriteFailed → IfSome (R.remaining (inner lines.old)) (λ bytes.
+        WritesPrefixChecked request bytes (W.contents (inner writer.old)) (W.contents (inner writer.new))) }
+
+    // A device's fault is reported exactly where it was met, the reader's and the writer's.
+    ensures reads { ReportsFailure (IsErrOf result CheckFault.ReadFailed) (failures lines.old) (failures lines.new) }
+    ensures writes { ReportsFailure (IsErrOf result CheckFault.WriteFailed) (failures writer.old) (failures writer.new) }
+{
+    let Some(bytes) = read_all(alloc, lines)? else {
+        return Err(CheckFault::ReadFailed);
+    };
+    let ExplainedText { explained, text } = checked(alloc, &bytes, request)?;
+    match write_text(writer, &text) {
+        Ok(()) => Ok(explained),
+        Err(_) => Err(CheckFault::WriteFailed),
+    }
+}
