@@ -1,5 +1,5 @@
 //! The numbers of the lines of operations.
-ghost use Rattle.std.specs.Prelude.{◌≡◌, IfOk, OnOk, map, replicate};
+ghost use Rattle.std.specs.Prelude.{◌≡◌, [], IfOk, OnOk, map, replicate};
 ghost use Rattle.cops_import.specs.Lines.{lines};
 ghost use Rattle.cops_check.specs.Numbers.{numbers_after, numbers_from, op_lines, with_number};
 
@@ -31,7 +31,7 @@ fn no_numbers(alloc: Global, clients: u16) -> Result<Vec<Vec<u64>>, AllocError>
     ensures { IfOk result (λ table. map (λ numbers. numbers.items) table.items ≡ replicate clients []) }
 {
     let mut table = Vec::new(alloc);
-    for _ in 0..clients {
+    for _client in 0..clients {
         table.push(Vec::new(alloc))?;
     }
     Ok(table)

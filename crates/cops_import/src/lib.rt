@@ -19,7 +19,7 @@ pub use fault::{ImportFault, JsonLineFault, faulty_line};
 pub use imported::{Imported, Unimported};
 pub use importer::cut_line;
 pub use laws::lines_determine_one;
-pub use line::is_blank;
+pub use line::{LineOp, is_blank};
 pub use name::Name;
 pub use names::Names;
 pub use reading::import_stream;

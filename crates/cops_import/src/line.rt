@@ -17,9 +17,9 @@ use std::alloc::Global;
 
 /// The operation of a line, and the client's name.
 #[derive(Debug, Drop)]
-pub(crate) struct LineOp {
-    pub(crate) name: Name,
-    pub(crate) op: Op,
+pub struct LineOp {
+    pub name: Name,
+    pub op: Op,
 }
 
 /// The kind of an operation.

@@ -1,9 +1,8 @@
-use Rattle.std.proofs.Common.{◌≡◌, ◌<◌, ◌-◌, ◌∙◌, ◌++◌, List, Option, Some, arith, refl, sym, subst, ap}
+use Rattle.std.proofs.Common.{◌≡◌, ◌<◌, ◌-◌, ◌∙◌, Option, Some, arith, refl, sym, subst, ap}
 use Rattle.std.specs.Prelude.{IsSome}
-use Rattle.cops_types.specs.declared.op.OpName.{OpName}
 use Rattle.cops_report.specs.declared.marks.Mark.{Mark}
-use Rattle.cops_report.specs.Searches.{HasSteps, IsWalk}
-use Rattle.cops_report.proofs.ChainLemmas.{walk_end, walk_more, walk_start}
+use Rattle.cops_report.specs.Searches.{HasSteps}
+use Rattle.cops_report.proofs.ChainLemmas.{walk_end, walk_more}
 use Rattle.cops_report.proofs.chains.walk.Goals as goal
 
 some_is : (o : Option Mark) (m : Mark) → o ≡ Some m → IsSome o
@@ -11,16 +10,6 @@ some_is o m e = subst IsSome (sym e) refl
 
 same_mark : (o : Option Mark) (a b : Mark) → o ≡ Some a → o ≡ Some b → a ≡ b
 same_mark o a b e f = (let g : Some a ≡ Some b = sym e ∙ f in cc)
-
-pub unwrap-mark-requires : goal.unwrap-mark-requires
-unwrap-mark-requires c = some_is c.get.result c.requires.marked.0 (c.get.ensures ∙ c.requires.marked.1)
-
-pub loop-mark-init : goal.loop-mark-init
-loop-mark-init c = (
-  c.args.from,
-  sym c.get.ensures ∙ c.unwrap-mark.ensures,
-  λ rest f. subst (λ (xs : List OpName). IsWalk c.args.marks.now c.args.to c.args.from (xs ++ rest)) (sym c.in_ok-names.ensures.items) (walk_start c.args.marks.now c.args.to c.args.from rest f),
-)
 
 pub unwrap-mark-requires-in-loop-mark : goal.unwrap-mark-requires-in-loop-mark
 unwrap-mark-requires-in-loop-mark c =

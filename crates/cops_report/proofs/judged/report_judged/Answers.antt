@@ -1,12 +1,8 @@
-use Rattle.std.proofs.Common.{Vec, Global, sym, subst}
-use Rattle.cops_audit.specs.Verdicts.{IsVerdict}
+use Rattle.std.proofs.Common.{Vec, Global, subst}
 use Rattle.cops_audit.specs.declared.verdict.Verdict.{Verdict}
 use Rattle.cops_report.specs.Reports.{IsReport}
 use Rattle.cops_report.proofs.SameReports.{ok_too, one_report}
 use Rattle.cops_report.proofs.judged.report_judged.Goals as goal
-
-pub report-requires : goal.report-requires
-report-requires c = subst (IsVerdict c.history.result.now.sessions) (sym c.verdict.ensures) c.history.ensures.verdict
 
 pub returns : goal.returns
 returns c = λ h is.

@@ -4,17 +4,12 @@ use Rattle.cops_types.specs.Histories.{SourceStep}
 use Rattle.cops_types.specs.declared.versioned_put.VersionedPut.{VersionedPut}
 use Rattle.cops_report.specs.Marks.{IsMarked}
 use Rattle.cops_report.proofs.GainLemmas.{gains_more, gains_none}
-use Rattle.cops_report.proofs.PutLemmas.{holders_all, holders_more, source_named}
+use Rattle.cops_report.proofs.PutLemmas.{holders_all, holders_more}
 use Rattle.cops_report.proofs.search.mark_holders.Goals as goal
 use Rattle.cops_report.proofs.search.mark_holders.Goals.{then-is_source+in_ok-mark_new, else-is_source}
 
 false_not_true : false ≡ true → ⊥
 false_not_true e = cc
-
-pub mark_new-requires : goal.mark_new-requires
-mark_new-requires c =
-    let n = c.put-item.result.name in
-    (c.loop-put.invariant.gains.places n).1 ((c.requires.places n).1 (source_named c.args.history.now.sessions n c.args.mark.next (c.if-is_source.ensures.source.0 refl)))
 
 pub loop-put-preserved : goal.loop-put-preserved
 loop-put-preserved c =
