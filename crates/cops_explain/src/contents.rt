@@ -16,11 +16,11 @@ pub type Written = Result<(), AllocError>;
 /// How contents are written.
 #[derive(Clone, Copy, Debug, PartialEq, Eq)]
 pub enum Form {
-    /// For people: printable text as it is, other bytes escaped, and of a long value its beginning and its length.
+    /// For texts: what is printable as it is, anything else escaped, and of a long value its beginning and its length.
     Readable,
     /// Escaped as by `show`, so that no byte means anything in XML.
     Escaped,
-    /// Escaped, and only the first bytes, for the cards and lanes of a picture.
+    /// Escaped, and no more than the first bytes, for the cards and lanes of a picture.
     Short,
 }
 

@@ -29,6 +29,6 @@ mod style;
 
 pub use explaining::explain;
 pub use laws::{known_by_its_client, one_explanation};
-pub use limits::{FIRST_FAULTS, MOST_OTHERS};
+pub use limits::{FIRST_FAULTS, MOST_OTHERS, VALUE_BYTES};
 pub use naming::{LineNames, NamedHistory, Naming};
 pub use pictures::picture;

@@ -93,7 +93,7 @@ pub fn push_reported(out: &mut String, form: Form, named: NamedHistory<'_>, name
     push_operation(out, form, named.history, name)
 }
 
-/// Writes the text of `push_reported` for people, in a line of its own.
+/// Writes the readable text of `push_reported`, in a line of its own.
 pub fn push_line(out: &mut String, named: NamedHistory<'_>, name: OpName) -> Written
     ensures { OnOk result (string_bytes out.new ≡ string_bytes out.old ++ reported_line (named_of named.entry) name) }
 {
