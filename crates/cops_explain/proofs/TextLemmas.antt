@@ -7,10 +7,14 @@ use Rattle.cops_explain.specs.Operations.{reported_lines}
 use Rattle.cops_explain.specs.Paragraphs.{holders_text, more_others, others_text}
 use Rattle.cops_explain.specs.declared.limits.TheConstants.{MOST_OTHERS}
 
+-- two texts
+pub joined : (old one new x y : List ℕ) → one ≡ old ++ x → new ≡ one ++ y → new ≡ old ++ (x ++ y)
+joined old one new x y a b = b ∙ ap (λ (t : List ℕ). t ++ y) a ∙ append_assoc old x y
+
 -- two texts, the last by a call whose result is returned as it is
 pub two : {T E : Type 0} (r : Result T E) (old one new x y : List ℕ) → one ≡ old ++ x → OnOk r (new ≡ one ++ y) → OnOk r (new ≡ old ++ (x ++ y))
 two (Err e) old one new x y a b = tt
-two (Ok v) old one new x y a b = b ∙ ap (λ (t : List ℕ). t ++ y) a ∙ append_assoc old x y
+two (Ok v) old one new x y a b = joined old one new x y a b
 
 -- three texts, the last by such a call
 pub three : {T E : Type 0} (r : Result T E) (old one more new x y z : List ℕ) → one ≡ old ++ x → more ≡ one ++ y → OnOk r (new ≡ more ++ z) → OnOk r (new ≡ old ++ (x ++ (y ++ z)))

@@ -20,17 +20,17 @@ is_hidden c = list_any (λ range. is_in_range range.0 range.1 c) HIDDEN
 abbrev pub is_printable : List ℕ → Bool
 is_printable bytes = is_utf8 bytes && not (list_any is_hidden (chars bytes))
 
--- a key or a name: where it is read by people, printable text is written as it is, and other bytes are escaped
+-- a key or a name: in a text, what is printable stands as it is, and anything else is escaped; in a picture all is escaped, and cut where it is shown short
 abbrev pub content_text : Form → List ℕ → List ℕ
 content_text Readable bytes = if is_printable bytes then bytes else bytes_text bytes
 content_text Escaped bytes = bytes_text bytes
 content_text Short bytes = if nat_le (length bytes) SHOWN_BYTES then bytes_text bytes else bytes_text (take SHOWN_BYTES bytes) ⧺ codes ".."
 
--- the whole characters of a longer value that fit into its first bytes
+-- the beginning of a longer value: the whole characters that fit into its first bytes, or those bytes escaped
 abbrev pub start_text : List ℕ → List ℕ
 start_text value = let start = take VALUE_BYTES value in if is_printable value then take (utf8_valid_len start) start else bytes_text start
 
--- a value: where it is read by people, no more of a longer one than its first bytes, and its length
+-- a value: in a text, of a longer one the beginning and its length
 abbrev pub value_text : Form → List ℕ → List ℕ
 value_text Readable value =
     if nat_le (length value) VALUE_BYTES then content_text Readable value

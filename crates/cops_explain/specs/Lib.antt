@@ -1,6 +1,6 @@
 pub mod LineNames
 pub mod Naming
-pub mod Indexed
+pub mod Refused
 pub mod Contents
 pub mod Names
 pub mod Operations

@@ -7,6 +7,6 @@ pub record ANamedHistory : Type 0 where
   pub sessions : Sessions
   pub naming : Naming
 
--- what is borrowed
+-- the history and the naming that are borrowed
 abbrev pub named_of : NamedHistory → ANamedHistory
 named_of named = record { sessions = named.history.now.sessions; naming = named.naming.now }

@@ -42,7 +42,7 @@ act_text form h name = client_text form h.naming name.client ⧺ codes " " ⧺ o
 abbrev pub reported_text : Form → ANamedHistory → OpName → List ℕ
 reported_text form h name = opening_text form h.naming name ⧺ operation_text form (op_at h.sessions name)
 
--- that text for people, in a line of its own
+-- its readable text, in a line of its own
 abbrev pub reported_line : ANamedHistory → OpName → List ℕ
 reported_line h name = reported_text Readable h name ⧺ codes "\n"
 

@@ -25,6 +25,10 @@ called h name = name_text Readable h.naming name
 abbrev pub title : ANamedHistory → ℕ → Fault → List ℕ
 title h number fault = codes "\nfault " ⧺ decimal number ⧺ codes ": " ⧺ fault_text Readable h.naming fault ⧺ codes "\n"
 
+-- an operation, and what is said of it
+abbrev pub said_text : ANamedHistory → OpName → List ℕ → List ℕ
+said_text h name words = reported_line h name ⧺ words
+
 -- how many more puts have a version, if any do
 abbrev pub more_others : ℕ → List ℕ
 more_others zero = []
@@ -36,7 +40,7 @@ others_text h others = reported_lines h (take MOST_OTHERS others) ⧺ more_other
 
 -- a put, and the others with its version
 abbrev pub doubled_text : ANamedHistory → OpName → List OpName → List ℕ
-doubled_text h name others = reported_line h name ⧺ codes "no other put may have that version, and these do:\n" ⧺ others_text h others
+doubled_text h name others = said_text h name (codes "no other put may have that version, and these do:\n") ⧺ others_text h others
 
 -- the puts with the version that a get without a source returned
 abbrev pub holders_text : ANamedHistory → List OpName → List ℕ
@@ -45,12 +49,12 @@ holders_text h (put ∷ puts) = codes "of that version there is:\n" ⧺ others_t
 
 -- a get, and the puts with the version that it returned, whose keys or values differ
 abbrev pub no_source_text : ANamedHistory → OpName → List OpName → List ℕ
-no_source_text h name holders = reported_line h name ⧺ codes "no put has that key, value and version\n" ⧺ holders_text h holders
+no_source_text h name holders = said_text h name (codes "no put has that key, value and version\n") ⧺ holders_text h holders
 
 -- a put, and the first operation before it whose version it is not above
 abbrev pub not_above_text : ANamedHistory → ANotAbove → List ℕ
 not_above_text h fault =
-    reported_line h fault.op ⧺ codes "its version is not above that of what its client did before:\n" ⧺ reported_line h fault.earlier
+    said_text h fault.op (codes "its version is not above that of what its client did before:\n") ⧺ reported_line h fault.earlier
 
 -- a get, and the newer put that it had to know of
 abbrev pub stale_head : ANamedHistory → AStale → List ℕ

@@ -10,14 +10,17 @@ use crate::sizes::SHOWN_BYTES;
 use cops_wire::show_bytes;
 use std::alloc::AllocError;
 
+/// The result of writing to a text, which fails where memory runs out. Then a part may have been written.
+pub type Written = Result<(), AllocError>;
+
 /// How contents are written.
 #[derive(Clone, Copy, Debug, PartialEq, Eq)]
 pub enum Form {
-    /// For people: printable text as it is, other bytes escaped, and of a long value its beginning and its length.
+    /// For texts: what is printable as it is, anything else escaped, and of a long value its beginning and its length.
     Readable,
     /// Escaped as by `show`, so that no byte means anything in XML.
     Escaped,
-    /// Escaped, and only the first bytes, for the cards and lanes of a picture.
+    /// Escaped, and no more than the first bytes, for the cards and lanes of a picture.
     Short,
 }
 
@@ -74,7 +77,7 @@ fn text_prefix(bytes: &[u8]) -> &str
 }
 
 /// Writes a key or a name.
-pub fn push_content(out: &mut String, form: Form, bytes: &[u8]) -> Result<(), AllocError>
+pub fn push_content(out: &mut String, form: Form, bytes: &[u8]) -> Written
     ensures { OnOk result (string_bytes out.new ≡ string_bytes out.old ++ content_text form bytes.now) }
 {
     match form {
@@ -94,7 +97,7 @@ pub fn push_content(out: &mut String, form: Form, bytes: &[u8]) -> Result<(), Al
 }
 
 /// Writes the beginning of a long value.
-fn push_start(out: &mut String, value: &[u8]) -> Result<(), AllocError>
+fn push_start(out: &mut String, value: &[u8]) -> Written
     requires { VALUE_BYTES < length value.now }
     ensures { OnOk result (string_bytes out.new ≡ string_bytes out.old ++ start_text value.now) }
 {
@@ -106,7 +109,7 @@ fn push_start(out: &mut String, value: &[u8]) -> Result<(), AllocError>
 }
 
 /// Writes a value.
-pub fn push_value(out: &mut String, form: Form, value: &[u8]) -> Result<(), AllocError>
+pub fn push_value(out: &mut String, form: Form, value: &[u8]) -> Written
     ensures { OnOk result (string_bytes out.new ≡ string_bytes out.old ++ value_text form value.now) }
 {
     let len = value.len();

@@ -4,7 +4,7 @@ ghost use Rattle.cops_explain.specs.Pictures.{Extends};
 ghost use Rattle.cops_explain.specs.declared.sizes.TheConstants.{MAX_COLUMNS};
 
 use crate::columns::{Column, Role};
-use crate::contents::Form;
+use crate::contents::{Form, Written};
 use crate::layout::{Card, CardPlace, lane_top};
 use crate::lines::{CardLines, left_out_line};
 use crate::names::{push_client, push_fault};
@@ -18,7 +18,7 @@ use crate::sizes::{
 use crate::style::{STYLE, TIPS};
 use cops_audit::Fault;
 use cops_types::OpName;
-use std::alloc::{AllocError, Global};
+use std::alloc::Global;
 
 /// The CSS class of a column's card, which decides its style.
 fn class_of(column: Column) -> &'static str {
@@ -34,7 +34,7 @@ fn class_of(column: Column) -> &'static str {
 }
 
 /// Writes the end of the first tag, with the size of the picture in pixels, and the parts that every picture has.
-pub fn push_page(out: &mut String, width: u32, height: u32) -> Result<(), AllocError>
+pub fn push_page(out: &mut String, width: u32, height: u32) -> Written
     ensures { OnOk result (Extends (string_bytes out.old) (string_bytes out.new)) }
 {
     write!(
@@ -51,7 +51,7 @@ pub fn push_page(out: &mut String, width: u32, height: u32) -> Result<(), AllocE
 }
 
 /// Writes the fault, and what it means.
-pub fn push_head(out: &mut String, named: NamedHistory<'_>, fault: Fault) -> Result<(), AllocError>
+pub fn push_head(out: &mut String, named: NamedHistory<'_>, fault: Fault) -> Written
     ensures { OnOk result (Extends (string_bytes out.old) (string_bytes out.new)) }
 {
     let sentence = sentence(named.history, fault);
@@ -73,7 +73,7 @@ pub fn push_lanes(
     clients: &[u16],
     left: u32,
     right: u32,
-) -> Result<(), AllocError>
+) -> Written
     requires { length clients.now ≤ MAX_COLUMNS }
     ensures { OnOk result (Extends (string_bytes out.old) (string_bytes out.new)) }
 {
@@ -91,7 +91,7 @@ pub fn push_lanes(
 }
 
 /// Draws the lines of an operation's card, which has this width.
-fn push_lines(out: &mut String, width: u32, lines: &CardLines) -> Result<(), AllocError>
+fn push_lines(out: &mut String, width: u32, lines: &CardLines) -> Written
     ensures { OnOk result (Extends (string_bytes out.old) (string_bytes out.new)) }
 {
     let center = width / 2;
@@ -101,7 +101,7 @@ fn push_lines(out: &mut String, width: u32, lines: &CardLines) -> Result<(), All
 }
 
 /// Begins a card, inside which positions are relative to its upper left corner.
-fn push_start(out: &mut String, class: &str, card: Card) -> Result<(), AllocError>
+fn push_start(out: &mut String, class: &str, card: Card) -> Written
     ensures { OnOk result (Extends (string_bytes out.old) (string_bytes out.new)) }
 {
     let left = card.left;
@@ -113,7 +113,7 @@ fn push_start(out: &mut String, class: &str, card: Card) -> Result<(), AllocErro
 }
 
 /// Draws the border of a card.
-fn push_border(out: &mut String, card: Card) -> Result<(), AllocError>
+fn push_border(out: &mut String, card: Card) -> Written
     ensures { OnOk result (Extends (string_bytes out.old) (string_bytes out.new)) }
 {
     let width = card.width;
@@ -130,7 +130,7 @@ fn push_card(
     named: NamedHistory<'_>,
     card: Card,
     name: OpName,
-) -> Result<(), AllocError>
+) -> Written
     ensures { OnOk result (Extends (string_bytes out.old) (string_bytes out.new)) }
 {
     let Some(op) = named.history.op(name) else {
@@ -146,13 +146,7 @@ fn push_card(
 }
 
 /// Draws a line of a card.
-fn push_line(
-    out: &mut String,
-    center: u32,
-    base: u32,
-    class: &str,
-    line: &str,
-) -> Result<(), AllocError>
+fn push_line(out: &mut String, center: u32, base: u32, class: &str, line: &str) -> Written
     ensures { OnOk result (Extends (string_bytes out.old) (string_bytes out.new)) }
 {
     write!(
@@ -162,12 +156,7 @@ fn push_line(
 }
 
 /// Writes, in place of a card, how many operations are left out.
-fn push_left_out(
-    alloc: Global,
-    out: &mut String,
-    card: Card,
-    count: usize,
-) -> Result<(), AllocError>
+fn push_left_out(alloc: Global, out: &mut String, card: Card, count: usize) -> Written
     ensures { OnOk result (Extends (string_bytes out.old) (string_bytes out.new)) }
 {
     let line = left_out_line(alloc, count)?;
@@ -176,12 +165,7 @@ fn push_left_out(
 }
 
 /// Draws the card of a column.
-fn push_place(
-    alloc: Global,
-    out: &mut String,
-    named: NamedHistory<'_>,
-    place: CardPlace,
-) -> Result<(), AllocError>
+fn push_place(alloc: Global, out: &mut String, named: NamedHistory<'_>, place: CardPlace) -> Written
     ensures { OnOk result (Extends (string_bytes out.old) (string_bytes out.new)) }
 {
     let card = place.card;
@@ -199,7 +183,7 @@ pub fn push_cards(
     out: &mut String,
     named: NamedHistory<'_>,
     places: &[CardPlace],
-) -> Result<(), AllocError>
+) -> Written
     ensures { OnOk result (Extends (string_bytes out.old) (string_bytes out.new)) }
 {
     for place in places {

@@ -2,13 +2,14 @@ ghost use Rattle.std.specs.Prelude.{◌≡◌, ◌++◌, take, string_bytes, IfO
 ghost use Rattle.cops_audit.specs.Verdicts.{IsVerdict};
 ghost use Rattle.cops_audit.specs.Faults.{faults_of};
 ghost use Rattle.cops_explain.specs.Explained.{AddsAsked, AddsParagraphs, IsExplained, counted, first_line, later_text, more_text};
-ghost use Rattle.cops_explain.specs.Indexed.{IsIndexed, history_of};
+ghost use Rattle.cops_explain.specs.Refused.{HasItsFaults, HasItsPuts, history_of};
 ghost use Rattle.cops_explain.specs.Naming.{named_of};
 
-use crate::indexed::Indexed;
+use crate::contents::Written;
 use crate::limits::FIRST_FAULTS;
 use crate::naming::NamedHistory;
 use crate::paragraphs::push_paragraph;
+use crate::refused::Refused;
 use cops_audit::{Faults, Verdict};
 use cops_report::{put_table, report};
 use cops_types::{Memory, Selection};
@@ -16,28 +17,22 @@ use std::alloc::{AllocError, Global};
 use std::fmt::Write;
 
 /// Adds the paragraphs of the first `count` faults, or of all where there are fewer.
-fn push_paragraphs(
-    alloc: Global,
-    out: &mut String,
-    indexed: Indexed<'_>,
-    faults: &Faults,
-    count: usize,
-) -> Result<(), Memory>
-    requires puts { IsIndexed indexed }
-    requires verdict { IsVerdict (history_of indexed).sessions (Verdict.Refused faults.now) }
+fn push_paragraphs(out: &mut String, refused: Refused<'_>, count: usize) -> Result<(), Memory>
+    requires puts { HasItsPuts refused }
+    requires faults { HasItsFaults refused }
     ensures { OnOk result
-        (AddsParagraphs (history_of indexed.entry) 1 (take count (faults_of faults.now)) (string_bytes out.old) (string_bytes out.new)) }
+        (AddsParagraphs (history_of refused.entry) 1 (take count (faults_of refused.entry.faults.now)) (string_bytes out.old) (string_bytes out.new)) }
 {
     for place in 0..count {
-        if let Some(fault) = faults.get(place) {
-            push_paragraph(alloc, out, indexed, place + 1, fault)?;
+        if let Some(fault) = refused.faults.get(place) {
+            push_paragraph(out, refused, place + 1, fault)?;
         }
     }
     Ok(())
 }
 
 /// Adds how many faults are left out, if any are.
-fn push_more(out: &mut String, more: usize) -> Result<(), AllocError>
+fn push_more(out: &mut String, more: usize) -> Written
     ensures { OnOk result (string_bytes out.new ≡ string_bytes out.old ++ more_text more) }
 {
     if more == 0 {
@@ -50,52 +45,40 @@ fn push_more(out: &mut String, more: usize) -> Result<(), AllocError>
 }
 
 /// Adds the paragraph of the fault with this number, or that there is none.
-fn push_one(
-    alloc: Global,
-    out: &mut String,
-    indexed: Indexed<'_>,
-    faults: &Faults,
-    number: u32,
-) -> Result<(), Memory>
-    requires puts { IsIndexed indexed }
-    requires verdict { IsVerdict (history_of indexed).sessions (Verdict.Refused faults.now) }
+fn push_one(out: &mut String, refused: Refused<'_>, number: u32) -> Result<(), Memory>
+    requires puts { HasItsPuts refused }
+    requires faults { HasItsFaults refused }
     ensures { OnOk result
-        (AddsAsked (history_of indexed.entry) (faults_of faults.now) (Selection.One number) (string_bytes out.old) (string_bytes out.new)) }
+        (AddsAsked (history_of refused.entry) (faults_of refused.entry.faults.now) (Selection.One number) (string_bytes out.old) (string_bytes out.new)) }
 {
-    match faults.of_number(number) {
-        Some(fault) => push_paragraph(alloc, out, indexed, number as usize, fault)?,
+    match refused.faults.of_number(number) {
+        Some(fault) => push_paragraph(out, refused, number as usize, fault)?,
         None => write!(out, "\nthere is no fault {number}\n")?,
     }
     Ok(())
 }
 
 /// Adds the explanation of the faults that are asked for.
-fn push_asked(
-    alloc: Global,
-    out: &mut String,
-    indexed: Indexed<'_>,
-    faults: &Faults,
-    asked: Selection,
-) -> Result<(), Memory>
-    requires puts { IsIndexed indexed }
-    requires verdict { IsVerdict (history_of indexed).sessions (Verdict.Refused faults.now) }
+fn push_asked(out: &mut String, refused: Refused<'_>, asked: Selection) -> Result<(), Memory>
+    requires puts { HasItsPuts refused }
+    requires faults { HasItsFaults refused }
     ensures { OnOk result
-        (AddsAsked (history_of indexed.entry) (faults_of faults.now) asked (string_bytes out.old) (string_bytes out.new)) }
+        (AddsAsked (history_of refused.entry) (faults_of refused.entry.faults.now) asked (string_bytes out.old) (string_bytes out.new)) }
 {
-    let count = faults.len();
+    let count = refused.faults.len();
     match asked {
         Selection::First => {
-            push_paragraphs(alloc, out, indexed, faults, FIRST_FAULTS)?;
+            push_paragraphs(out, refused, FIRST_FAULTS)?;
             push_more(out, count.saturating_sub(FIRST_FAULTS))?;
             Ok(())
         }
-        Selection::All => push_paragraphs(alloc, out, indexed, faults, count),
-        Selection::One(number) => push_one(alloc, out, indexed, faults, number),
+        Selection::All => push_paragraphs(out, refused, count),
+        Selection::One(number) => push_one(out, refused, number),
     }
 }
 
 /// Adds a count with its noun, after other words: the noun has an `s` unless the count is one.
-fn push_counted(out: &mut String, before: &str, count: usize, word: &str) -> Result<(), AllocError>
+fn push_counted(out: &mut String, before: &str, count: usize, word: &str) -> Written
     ensures { OnOk result (string_bytes out.new ≡ string_bytes out.old ++ counted before.now count word.now) }
 {
     if count == 1 {
@@ -149,23 +132,29 @@ fn refusal(
 {
     let history = named.history;
     let puts = put_table(alloc, history)?;
-    let indexed = Indexed { named, puts: &puts };
+    let refused = Refused {
+        alloc,
+        named,
+        puts: &puts,
+        faults,
+    };
     let mut text = first_line(alloc, history.len(), history.puts(), faults.len())?;
-    push_asked(alloc, &mut text, indexed, faults, asked)?;
+    push_asked(&mut text, refused, asked)?;
     text.push_str(later(faults))?;
     Ok(text.into_bytes())
 }
 
-/// The text that explains a verdict on a history, with the names of its naming. Each line ends with a line feed. For an accepted history it is the
-/// report's line, whatever is asked for. For a refused one it is a line with the numbers of operations, puts and
-/// faults, and then, each after an empty line, a paragraph for each fault that is asked for, in order of names.
+/// The text that explains a verdict on a history, whose operations are called as its naming says. Each line ends with a
+/// line feed. For an accepted history it is the report's line, whatever is asked for. For a refused one it is a line
+/// with the numbers of operations, puts and faults, and then, each after an empty line, a paragraph for each fault that
+/// is asked for, in order of names.
 ///
 /// A paragraph has the fault's number, counted from 1, its class and its name; what happened, with keys, values and
 /// versions; the operations that show it, which for a stale get are the chain of `chain` from the newer put, and the
 /// operation by which its client knew of that put; and in two lines what usually causes it. A deletion is written as
-/// `deleted KEY at VERSION`, and a get that found one as `found a deletion of KEY at VERSION`. Keys, values and names are
-/// written as they are where they are printable text, and otherwise escaped as by `show`. Of a value of more than 64
-/// bytes the first whole characters that fit into 64 bytes are written, and its length.
+/// `deleted KEY at VERSION`, and a get that found one as `found a deletion of KEY at VERSION`. Keys, values and clients'
+/// names are written as they are where they are printable text, and otherwise escaped as `show` does. A value of more
+/// than 64 bytes is cut: the whole characters that fit into 64 bytes, then `.. (N bytes)` with its length.
 ///
 /// Where the first 20 faults are asked for and there are more, the text says how many are left out, and where there is
 /// no fault with the number that is asked for, it says so. The last line names the classes of faults that were not

@@ -6,20 +6,18 @@ use crate::columns::Column;
 use crate::contents::{Form, push_content};
 use crate::names::{push_client, push_name};
 use crate::naming::{NamedHistory, Naming};
+use crate::operation::word_of;
 use crate::sizes::{
     CHARACTER, LABEL_GAP, LANE_LEFT, MARGIN, MAX_LABEL, MAX_LINE, MIN_LINE, PADDING,
 };
 use cops_types::{OpName, OpRef};
 use std::alloc::{AllocError, Global};
 
-/// What the operation did, in a word.
+/// What the operation did, in a word: the first of the words of an explanation.
 fn act_word(op: OpRef<'_>) -> &'static str {
-    match op {
-        OpRef::Put { value: Some(_), .. } => "put ",
-        OpRef::Put { value: None, .. } => "deleted ",
-        OpRef::Got { value: Some(_), .. } => "got ",
-        OpRef::Got { value: None, .. } => "found ",
-        OpRef::Missed { .. } => "got ",
+    match word_of(op).split_once(' ') {
+        Some((word, _)) => word,
+        None => "",
     }
 }
 
@@ -39,12 +37,12 @@ fn value_line(alloc: Global, op: OpRef<'_>) -> Result<String, AllocError> {
         OpRef::Put {
             value: Some(value),
             ..
-        } => shown(alloc, "= ", value.as_bytes()),
+        } => shown(alloc, "=", value.as_bytes()),
         OpRef::Put { value: None, .. } => Ok(String::new(alloc)),
         OpRef::Got {
             value: Some(value),
             ..
-        } => shown(alloc, "= ", value.as_bytes()),
+        } => shown(alloc, "=", value.as_bytes()),
         OpRef::Got { value: None, .. } => String::from_str(alloc, "deleted"),
         OpRef::Missed { .. } => String::from_str(alloc, "nothing"),
     }
@@ -69,7 +67,7 @@ fn name_line(
 
 /// A word, and the first bytes of a key or a value.
 fn shown(alloc: Global, word: &str, bytes: &[u8]) -> Result<String, AllocError> {
-    let mut text = String::from_str(alloc, word)?;
+    let mut text = format!(in alloc; "{word} ")?;
     push_content(&mut text, Form::Short, bytes)?;
     Ok(text)
 }

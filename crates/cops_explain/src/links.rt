@@ -3,12 +3,12 @@ ghost use Rattle.std.specs.Prelude.{◌<◌, ◌^◌, OnOk, string_bytes};
 ghost use Rattle.cops_explain.specs.Pictures.{Extends};
 
 use crate::columns::{Column, Role};
+use crate::contents::Written;
 use crate::layout::{Card, CardPlace};
 use crate::sizes::{FOOT, RETURN_AT, TURN};
-use std::alloc::AllocError;
 
 /// Draws an arrow from a card to one on its right: straight within a lane, otherwise curved from lane to lane.
-fn push_link(out: &mut String, from: Card, to: Card) -> Result<(), AllocError>
+fn push_link(out: &mut String, from: Card, to: Card) -> Written
     ensures { OnOk result (Extends (string_bytes out.old) (string_bytes out.new)) }
 {
     out.push_str("<path class=\"link\" marker-end=\"url(#tip)\" d=\"")?;
@@ -41,7 +41,7 @@ fn leads_on(column: Column) -> bool {
 }
 
 /// Draws an arrow from each place to the next one, except from the returned put.
-pub fn push_links(out: &mut String, places: &[CardPlace]) -> Result<(), AllocError>
+pub fn push_links(out: &mut String, places: &[CardPlace]) -> Written
     ensures { OnOk result (Extends (string_bytes out.old) (string_bytes out.new)) }
 {
     let mut before: Option<Card> = None;
@@ -60,7 +60,7 @@ pub fn push_links(out: &mut String, places: &[CardPlace]) -> Result<(), AllocErr
 
 /// Draws a line from a returned put to the get that returned it. It runs below the lowest lane, whose cards end at
 /// `lowest`.
-fn push_way(out: &mut String, from: Card, to: Card, lowest: u32) -> Result<(), AllocError>
+fn push_way(out: &mut String, from: Card, to: Card, lowest: u32) -> Written
     requires { lowest < 2 ^ 17 }
     ensures { OnOk result (Extends (string_bytes out.old) (string_bytes out.new)) }
 {
@@ -81,7 +81,7 @@ fn push_way(out: &mut String, from: Card, to: Card, lowest: u32) -> Result<(), A
 }
 
 /// Draws that line if the first place is a returned put; the get is at the last place.
-pub fn push_return(out: &mut String, places: &[CardPlace], lowest: u32) -> Result<(), AllocError>
+pub fn push_return(out: &mut String, places: &[CardPlace], lowest: u32) -> Written
     requires { lowest < 2 ^ 17 }
     ensures { OnOk result (Extends (string_bytes out.old) (string_bytes out.new)) }
 {

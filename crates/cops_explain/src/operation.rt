@@ -5,11 +5,10 @@ ghost use Rattle.cops_types.specs.OpRefs.{seen};
 ghost use Rattle.cops_explain.specs.Naming.{named_of};
 ghost use Rattle.cops_explain.specs.Operations.{act_text, object_text, operation_text, operation_word, pair_text, reported_line, reported_lines, reported_text};
 
-use crate::contents::{Form, push_content, push_value};
+use crate::contents::{Form, Written, push_content, push_value};
 use crate::names::{push_client, push_opening};
 use crate::naming::NamedHistory;
 use cops_types::{History, Key, OpName, OpRef, Value, Version};
-use std::alloc::AllocError;
 use std::fmt::Write;
 
 /// Writes a key, its value if it has one, and the version.
@@ -19,7 +18,7 @@ fn push_pair(
     key: &Key,
     value: Option<&Value>,
     version: Version,
-) -> Result<(), AllocError>
+) -> Written
     ensures { OnOk result (string_bytes out.new
         ≡ string_bytes out.old ++ pair_text form key.now (option_copied value.entry) version) }
 {
@@ -32,7 +31,7 @@ fn push_pair(
 }
 
 /// What an operation did, in the words before its key.
-fn word_of(op: OpRef<'_>) -> &'static str
+pub fn word_of(op: OpRef<'_>) -> &'static str
     ensures { result.now ≡ operation_word (seen op.entry) }
 {
     match op {
@@ -45,7 +44,7 @@ fn word_of(op: OpRef<'_>) -> &'static str
 }
 
 /// Writes the key of an operation, with its value and version, if it has them.
-fn push_object(out: &mut String, form: Form, op: OpRef<'_>) -> Result<(), AllocError>
+fn push_object(out: &mut String, form: Form, op: OpRef<'_>) -> Written
     ensures { OnOk result (string_bytes out.new ≡ string_bytes out.old ++ object_text form (seen op.entry)) }
 {
     match op {
@@ -65,12 +64,7 @@ fn push_object(out: &mut String, form: Form, op: OpRef<'_>) -> Result<(), AllocE
 
 /// Writes what an operation did: a put or a deletion with its version, or a get with what it returned, or that it found
 /// a deletion or nothing.
-fn push_operation(
-    out: &mut String,
-    form: Form,
-    history: &History,
-    name: OpName,
-) -> Result<(), AllocError>
+fn push_operation(out: &mut String, form: Form, history: &History, name: OpName) -> Written
     ensures { OnOk result (string_bytes out.new ≡ string_bytes out.old ++ operation_text form (op_at history.now.sessions name)) }
 {
     match history.op(name) {
@@ -83,12 +77,7 @@ fn push_operation(
 }
 
 /// Writes a client and what it did with an operation.
-pub fn push_act(
-    out: &mut String,
-    form: Form,
-    named: NamedHistory<'_>,
-    name: OpName,
-) -> Result<(), AllocError>
+pub fn push_act(out: &mut String, form: Form, named: NamedHistory<'_>, name: OpName) -> Written
     ensures { OnOk result (string_bytes out.new ≡ string_bytes out.old ++ act_text form (named_of named.entry) name) }
 {
     push_client(out, form, named.naming, name.client)?;
@@ -97,20 +86,15 @@ pub fn push_act(
 }
 
 /// Writes an operation's name, its client, and what it did.
-pub fn push_reported(
-    out: &mut String,
-    form: Form,
-    named: NamedHistory<'_>,
-    name: OpName,
-) -> Result<(), AllocError>
+pub fn push_reported(out: &mut String, form: Form, named: NamedHistory<'_>, name: OpName) -> Written
     ensures { OnOk result (string_bytes out.new ≡ string_bytes out.old ++ reported_text form (named_of named.entry) name) }
 {
     push_opening(out, form, named.naming, name)?;
     push_operation(out, form, named.history, name)
 }
 
-/// Writes the text of `push_reported` for people, in a line of its own.
-pub fn push_line(out: &mut String, named: NamedHistory<'_>, name: OpName) -> Result<(), AllocError>
+/// Writes the readable text of `push_reported`, in a line of its own.
+pub fn push_line(out: &mut String, named: NamedHistory<'_>, name: OpName) -> Written
     ensures { OnOk result (string_bytes out.new ≡ string_bytes out.old ++ reported_line (named_of named.entry) name) }
 {
     push_reported(out, Form::Readable, named, name)?;
@@ -118,11 +102,7 @@ pub fn push_line(out: &mut String, named: NamedHistory<'_>, name: OpName) -> Res
 }
 
 /// Writes a line for each operation.
-pub fn push_lines(
-    out: &mut String,
-    named: NamedHistory<'_>,
-    names: &[OpName],
-) -> Result<(), AllocError>
+pub fn push_lines(out: &mut String, named: NamedHistory<'_>, names: &[OpName]) -> Written
     ensures { OnOk result (string_bytes out.new ≡ string_bytes out.old ++ reported_lines (named_of named.entry) names.now) }
 {
     for name in names {

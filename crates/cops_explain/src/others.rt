@@ -2,13 +2,13 @@
 ghost use Rattle.std.specs.Prelude.{◌≡◌, ◌↔◌, Contains, IfOk, IsTrue};
 ghost use Rattle.cops_types.specs.declared.op.OpName.{OpName};
 ghost use Rattle.cops_report.specs.Reports.{HasSomeVersion, version_at};
-ghost use Rattle.cops_explain.specs.Indexed.{IsIndexed, history_of};
+ghost use Rattle.cops_explain.specs.Refused.{HasItsPuts, history_of};
 ghost use Rattle.cops_explain.specs.Others.{AreOthers, IsOther};
 
-use crate::indexed::Indexed;
+use crate::refused::Refused;
 use cops_report::{from_version, version_at};
 use cops_types::{History, OpName, Version};
-use std::alloc::{AllocError, Global};
+use std::alloc::AllocError;
 
 /// Whether `other` is another put with an operation's version.
 fn is_other(history: &History, name: OpName, version: Version, other: OpName) -> bool
@@ -22,15 +22,15 @@ fn is_other(history: &History, name: OpName, version: Version, other: OpName) ->
 }
 
 /// The other puts with an operation's version, in the order of the puts.
-fn holders(alloc: Global, indexed: Indexed<'_>, name: OpName) -> Result<Vec<OpName>, AllocError>
-    requires puts { IsIndexed indexed }
-    requires version { HasSomeVersion (history_of indexed).sessions name }
-    ensures { IfOk result (λ names. (n : OpName) → Contains names.items n ↔ IsOther (history_of indexed.entry).sessions name n) }
+fn holders(refused: Refused<'_>, name: OpName) -> Result<Vec<OpName>, AllocError>
+    requires puts { HasItsPuts refused }
+    requires version { HasSomeVersion (history_of refused).sessions name }
+    ensures { IfOk result (λ names. (n : OpName) → Contains names.items n ↔ IsOther (history_of refused.entry).sessions name n) }
 {
-    let history = indexed.named.history;
+    let history = refused.named.history;
     let version = version_at(history, name);
-    let mut names = Vec::new(alloc);
-    for put in from_version(indexed.puts, version) {
+    let mut names = Vec::new(refused.alloc);
+    for put in from_version(refused.puts, version) {
         if put.version != version {
             return Ok(names);
         }
@@ -42,12 +42,12 @@ fn holders(alloc: Global, indexed: Indexed<'_>, name: OpName) -> Result<Vec<OpNa
 }
 
 /// The other puts with an operation's version, in order of names.
-pub fn others(alloc: Global, indexed: Indexed<'_>, name: OpName) -> Result<Vec<OpName>, AllocError>
-    requires puts { IsIndexed indexed }
-    requires version { HasSomeVersion (history_of indexed).sessions name }
-    ensures { IfOk result (λ names. AreOthers (history_of indexed.entry).sessions name names.items) }
+pub fn others(refused: Refused<'_>, name: OpName) -> Result<Vec<OpName>, AllocError>
+    requires puts { HasItsPuts refused }
+    requires version { HasSomeVersion (history_of refused).sessions name }
+    ensures { IfOk result (λ names. AreOthers (history_of refused.entry).sessions name names.items) }
 {
-    let mut names = holders(alloc, indexed, name)?;
+    let mut names = holders(refused, name)?;
     names.sort_unstable();
     names.dedup();
     Ok(names)

@@ -3,23 +3,22 @@ ghost use Rattle.std.specs.Prelude.{◌≡◌, ◌++◌, OnOk, string_bytes};
 ghost use Rattle.cops_types.specs.Histories.{op_at};
 ghost use Rattle.cops_types.specs.Texts.{◌⧺◌};
 ghost use Rattle.cops_audit.specs.Faults.{IsFault};
-ghost use Rattle.cops_explain.specs.Indexed.{IsIndexed, history_of};
+ghost use Rattle.cops_explain.specs.Refused.{HasItsPuts, history_of};
 ghost use Rattle.cops_explain.specs.Naming.{named_of};
-ghost use Rattle.cops_explain.specs.Paragraphs.{AddsParagraph, AddsShown, called, cause_text, doubled_text, holders_text, known_text, more_others, no_source_text, not_above_text, others_text, returned_text, right_text, stale_end, stale_head, stale_return, stale_text, title};
+ghost use Rattle.cops_explain.specs.Paragraphs.{AddsParagraph, AddsShown, called, cause_text, holders_text, known_text, more_others, others_text, returned_text, right_text, said_text, stale_end, stale_head, stale_return, stale_text, title};
 
 use crate::causes;
-use crate::contents::Form;
-use crate::indexed::Indexed;
+use crate::contents::{Form, Written};
 use crate::limits::MOST_OTHERS;
 use crate::names::{push_fault, push_name};
 use crate::naming::NamedHistory;
 use crate::operation::{push_act, push_line, push_lines, push_reported};
 use crate::others::others;
+use crate::refused::Refused;
 use crate::steps::{known_by, push_chain};
 use cops_audit::{Fault, NotAbove, Stale};
 use cops_report::chain_by;
 use cops_types::{History, Memory, OpName, OpRef};
-use std::alloc::{AllocError, Global};
 use std::fmt::Write;
 
 /// Writes what an operation is called, between words.
@@ -29,7 +28,7 @@ fn push_called(
     before: &str,
     name: OpName,
     after: &str,
-) -> Result<(), AllocError>
+) -> Written
     ensures { OnOk result (string_bytes out.new ≡ string_bytes out.old ++ (before.now ⧺ called (named_of named.entry) name ⧺ after.now)) }
 {
     out.push_str(before)?;
@@ -38,12 +37,7 @@ fn push_called(
 }
 
 /// Writes an empty line, and then the number, the class and the name of a fault.
-fn push_title(
-    out: &mut String,
-    named: NamedHistory<'_>,
-    number: usize,
-    fault: Fault,
-) -> Result<(), AllocError>
+fn push_title(out: &mut String, named: NamedHistory<'_>, number: usize, fault: Fault) -> Written
     ensures { OnOk result (string_bytes out.new ≡ string_bytes out.old ++ title (named_of named.entry) number fault) }
 {
     write!(out, "\nfault {number}: ")?;
@@ -51,8 +45,16 @@ fn push_title(
     out.push_str("\n")
 }
 
+/// Writes an operation, and what is said of it.
+fn push_said(out: &mut String, named: NamedHistory<'_>, name: OpName, words: &str) -> Written
+    ensures { OnOk result (string_bytes out.new ≡ string_bytes out.old ++ said_text (named_of named.entry) name words.now) }
+{
+    push_line(out, named, name)?;
+    out.push_str(words)
+}
+
 /// Writes how many more puts have a version, if any do.
-fn push_more_others(out: &mut String, more: usize) -> Result<(), AllocError>
+fn push_more_others(out: &mut String, more: usize) -> Written
     ensures { OnOk result (string_bytes out.new ≡ string_bytes out.old ++ more_others more) }
 {
     if more == 0 {
@@ -62,11 +64,7 @@ fn push_more_others(out: &mut String, more: usize) -> Result<(), AllocError>
 }
 
 /// Writes the first puts with a version, and how many more there are.
-fn push_others(
-    out: &mut String,
-    named: NamedHistory<'_>,
-    others: &[OpName],
-) -> Result<(), AllocError>
+fn push_others(out: &mut String, named: NamedHistory<'_>, others: &[OpName]) -> Written
     ensures { OnOk result (string_bytes out.new ≡ string_bytes out.old ++ others_text (named_of named.entry) others.now) }
 {
     if others.len() <= MOST_OTHERS {
@@ -76,26 +74,8 @@ fn push_others(
     push_more_others(out, others.len() - MOST_OTHERS)
 }
 
-/// Writes a put, and the others with its version.
-fn push_doubled(
-    out: &mut String,
-    named: NamedHistory<'_>,
-    name: OpName,
-    others: &[OpName],
-) -> Result<(), AllocError>
-    ensures { OnOk result (string_bytes out.new ≡ string_bytes out.old ++ doubled_text (named_of named.entry) name others.now) }
-{
-    push_line(out, named, name)?;
-    out.push_str("no other put may have that version, and these do:\n")?;
-    push_others(out, named, others)
-}
-
 /// Writes the puts with the version that a get without a source returned.
-fn push_holders(
-    out: &mut String,
-    named: NamedHistory<'_>,
-    holders: &[OpName],
-) -> Result<(), AllocError>
+fn push_holders(out: &mut String, named: NamedHistory<'_>, holders: &[OpName]) -> Written
     ensures { OnOk result (string_bytes out.new ≡ string_bytes out.old ++ holders_text (named_of named.entry) holders.now) }
 {
     if holders.is_empty() {
@@ -105,39 +85,8 @@ fn push_holders(
     push_others(out, named, holders)
 }
 
-/// Writes a get, and the puts with the version that it returned.
-fn push_no_source(
-    out: &mut String,
-    named: NamedHistory<'_>,
-    name: OpName,
-    holders: &[OpName],
-) -> Result<(), AllocError>
-    ensures { OnOk result (string_bytes out.new ≡ string_bytes out.old ++ no_source_text (named_of named.entry) name holders.now) }
-{
-    push_line(out, named, name)?;
-    out.push_str("no put has that key, value and version\n")?;
-    push_holders(out, named, holders)
-}
-
-/// Writes a put, and the first operation before it whose version it is not above.
-fn push_not_above(
-    out: &mut String,
-    named: NamedHistory<'_>,
-    fault: NotAbove,
-) -> Result<(), AllocError>
-    ensures { OnOk result (string_bytes out.new ≡ string_bytes out.old ++ not_above_text (named_of named.entry) fault) }
-{
-    push_line(out, named, fault.op)?;
-    out.push_str("its version is not above that of what its client did before:\n")?;
-    push_line(out, named, fault.earlier)
-}
-
 /// Writes a stale get, and the newer put that it had to know of.
-fn push_stale_head(
-    out: &mut String,
-    named: NamedHistory<'_>,
-    fault: Stale,
-) -> Result<(), AllocError>
+fn push_stale_head(out: &mut String, named: NamedHistory<'_>, fault: Stale) -> Written
     ensures { OnOk result (string_bytes out.new ≡ string_bytes out.old ++ stale_head (named_of named.entry) fault) }
 {
     push_act(out, Form::Readable, named, fault.op)?;
@@ -159,12 +108,7 @@ fn stale_return(history: &History, name: OpName) -> &'static str
 }
 
 /// Writes how the client of a stale get knew of the newer put.
-fn push_known(
-    out: &mut String,
-    named: NamedHistory<'_>,
-    fault: Stale,
-    by: OpName,
-) -> Result<(), AllocError>
+fn push_known(out: &mut String, named: NamedHistory<'_>, fault: Stale, by: OpName) -> Written
     ensures { OnOk result (string_bytes out.new ≡ string_bytes out.old ++ known_text (named_of named.entry) fault by) }
 {
     if fault.newer.client == fault.op.client {
@@ -181,7 +125,7 @@ fn push_known(
 }
 
 /// Writes the operation to look at, and what it returned.
-fn push_returned(out: &mut String, named: NamedHistory<'_>, name: OpName) -> Result<(), AllocError>
+fn push_returned(out: &mut String, named: NamedHistory<'_>, name: OpName) -> Written
     ensures { OnOk result (string_bytes out.new ≡ string_bytes out.old ++ returned_text (named_of named.entry) name) }
 {
     let returned = stale_return(named.history, name);
@@ -190,7 +134,7 @@ fn push_returned(out: &mut String, named: NamedHistory<'_>, name: OpName) -> Res
 }
 
 /// Writes what a stale get should have returned.
-fn push_right(out: &mut String, named: NamedHistory<'_>, newer: OpName) -> Result<(), AllocError>
+fn push_right(out: &mut String, named: NamedHistory<'_>, newer: OpName) -> Written
     ensures { OnOk result (string_bytes out.new ≡ string_bytes out.old ++ right_text (named_of named.entry) newer) }
 {
     out.push_str("should have returned: ")?;
@@ -200,12 +144,7 @@ fn push_right(out: &mut String, named: NamedHistory<'_>, newer: OpName) -> Resul
 
 /// Writes what a stale get should have returned, and where to look: the get, what it returned, and how its client knew
 /// of the newer put.
-fn push_stale_end(
-    out: &mut String,
-    named: NamedHistory<'_>,
-    fault: Stale,
-    by: OpName,
-) -> Result<(), AllocError>
+fn push_stale_end(out: &mut String, named: NamedHistory<'_>, fault: Stale, by: OpName) -> Written
     ensures { OnOk result (string_bytes out.new ≡ string_bytes out.old ++ stale_end (named_of named.entry) fault by) }
 {
     push_right(out, named, fault.newer)?;
@@ -214,12 +153,7 @@ fn push_stale_end(
 }
 
 /// Writes a stale get with its chain.
-fn push_stale(
-    out: &mut String,
-    named: NamedHistory<'_>,
-    fault: Stale,
-    chain: &[OpName],
-) -> Result<(), AllocError>
+fn push_stale(out: &mut String, named: NamedHistory<'_>, fault: Stale, chain: &[OpName]) -> Written
     ensures { OnOk result (string_bytes out.new ≡ string_bytes out.old ++ stale_text (named_of named.entry) fault chain.now) }
 {
     push_stale_head(out, named, fault)?;
@@ -228,14 +162,20 @@ fn push_stale(
 }
 
 /// Adds what shows a stale get.
-fn stale(alloc: Global, out: &mut String, indexed: Indexed<'_>, fault: Stale) -> Result<(), Memory>
-    requires puts { IsIndexed indexed }
-    requires stale { IsFault (history_of indexed).sessions (Fault.Stale fault) }
+fn stale(out: &mut String, refused: Refused<'_>, fault: Stale) -> Result<(), Memory>
+    requires puts { HasItsPuts refused }
+    requires stale { IsFault (history_of refused).sessions (Fault.Stale fault) }
     ensures { OnOk result
-        (AddsShown (history_of indexed.entry) (Fault.Stale fault) (string_bytes out.old) (string_bytes out.new)) }
+        (AddsShown (history_of refused.entry) (Fault.Stale fault) (string_bytes out.old) (string_bytes out.new)) }
 {
-    let named = indexed.named;
-    let found = chain_by(alloc, named.history, indexed.puts, fault.newer, fault.op)?;
+    let named = refused.named;
+    let found = chain_by(
+        refused.alloc,
+        named.history,
+        refused.puts,
+        fault.newer,
+        fault.op,
+    )?;
     match found {
         Some(chain) => {
             push_stale(out, named, fault, &chain)?;
@@ -246,28 +186,30 @@ fn stale(alloc: Global, out: &mut String, indexed: Indexed<'_>, fault: Stale) ->
 }
 
 /// Adds what shows a fault, by its class.
-fn push_shown(
-    alloc: Global,
-    out: &mut String,
-    indexed: Indexed<'_>,
-    fault: Fault,
-) -> Result<(), Memory>
-    requires puts { IsIndexed indexed }
-    requires fault { IsFault (history_of indexed).sessions fault }
-    ensures { OnOk result (AddsShown (history_of indexed.entry) fault (string_bytes out.old) (string_bytes out.new)) }
+fn push_shown(out: &mut String, refused: Refused<'_>, fault: Fault) -> Result<(), Memory>
+    requires puts { HasItsPuts refused }
+    requires fault { IsFault (history_of refused).sessions fault }
+    ensures { OnOk result (AddsShown (history_of refused.entry) fault (string_bytes out.old) (string_bytes out.new)) }
 {
-    let named = indexed.named;
+    let named = refused.named;
     match fault {
         Fault::Doubled(name) => {
-            let others = others(alloc, indexed, name)?;
-            push_doubled(out, named, name, &others)?;
+            let others = others(refused, name)?;
+            let words = "no other put may have that version, and these do:\n";
+            push_said(out, named, name, words)?;
+            push_others(out, named, &others)?;
         }
         Fault::NoSource(name) => {
-            let holders = others(alloc, indexed, name)?;
-            push_no_source(out, named, name, &holders)?;
+            let holders = others(refused, name)?;
+            push_said(out, named, name, "no put has that key, value and version\n")?;
+            push_holders(out, named, &holders)?;
         }
-        Fault::NotAbove(fault) => push_not_above(out, named, fault)?,
-        Fault::Stale(fault) => stale(alloc, out, indexed, fault)?,
+        Fault::NotAbove(fault) => {
+            let words = "its version is not above that of what its client did before:\n";
+            push_said(out, named, fault.op, words)?;
+            push_line(out, named, fault.earlier)?;
+        }
+        Fault::Stale(fault) => stale(out, refused, fault)?,
     }
     Ok(())
 }
@@ -286,19 +228,18 @@ fn cause(fault: Fault) -> &'static str
 
 /// Adds the paragraph of a fault, with its number.
 pub fn push_paragraph(
-    alloc: Global,
     out: &mut String,
-    indexed: Indexed<'_>,
+    refused: Refused<'_>,
     number: usize,
     fault: Fault,
 ) -> Result<(), Memory>
-    requires puts { IsIndexed indexed }
-    requires fault { IsFault (history_of indexed).sessions fault }
+    requires puts { HasItsPuts refused }
+    requires fault { IsFault (history_of refused).sessions fault }
     ensures { OnOk result
-        (AddsParagraph (history_of indexed.entry) number fault (string_bytes out.old) (string_bytes out.new)) }
+        (AddsParagraph (history_of refused.entry) number fault (string_bytes out.old) (string_bytes out.new)) }
 {
-    push_title(out, indexed.named, number, fault)?;
-    push_shown(alloc, out, indexed, fault)?;
+    push_title(out, refused.named, number, fault)?;
+    push_shown(out, refused, fault)?;
     out.push_str(cause(fault))?;
     Ok(())
 }

@@ -6,7 +6,7 @@ ghost use Rattle.cops_explain.specs.Pictures.{Extends, IsEnded, IsPicture, IsPic
 ghost use Rattle.cops_explain.specs.declared.sizes.TheConstants.{MAX_COLUMNS};
 
 use crate::columns::{Column, columns_of};
-use crate::contents::Form;
+use crate::contents::{Form, Written};
 use crate::drawing::{push_cards, push_head, push_lanes, push_page};
 use crate::layout::{CardPlace, clients_of, lane_top, places_of};
 use crate::lines::{card_width, lane_left};
@@ -29,12 +29,7 @@ fn right_of(places: &[CardPlace]) -> u32
 }
 
 /// Draws the arrows for the class of the fault.
-fn push_arrows(
-    out: &mut String,
-    fault: Fault,
-    places: &[CardPlace],
-    lowest: u32,
-) -> Result<(), AllocError>
+fn push_arrows(out: &mut String, fault: Fault, places: &[CardPlace], lowest: u32) -> Written
     requires { lowest < 2 ^ 17 }
     ensures { OnOk result (Extends (string_bytes out.old) (string_bytes out.new)) }
 {

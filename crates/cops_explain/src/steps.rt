@@ -3,19 +3,13 @@ ghost use Rattle.std.specs.Prelude.{◌≡◌, ◌==◌, ◌++◌, if◌then◌e
 ghost use Rattle.cops_explain.specs.Naming.{named_of};
 ghost use Rattle.cops_explain.specs.Steps.{chain_text, known_by, step_line, step_lines};
 
-use crate::contents::Form;
+use crate::contents::{Form, Written};
 use crate::naming::NamedHistory;
 use crate::operation::{push_line, push_reported};
 use cops_types::OpName;
-use std::alloc::AllocError;
 
 /// Writes the line of an operation to which a step leads, with the kind of the step.
-fn push_step(
-    out: &mut String,
-    named: NamedHistory<'_>,
-    from: OpName,
-    to: OpName,
-) -> Result<(), AllocError>
+fn push_step(out: &mut String, named: NamedHistory<'_>, from: OpName, to: OpName) -> Written
     ensures { OnOk result (string_bytes out.new ≡ string_bytes out.old ++ step_line (named_of named.entry) from to) }
 {
     push_reported(out, Form::Readable, named, to)?;
@@ -27,12 +21,7 @@ fn push_step(
 }
 
 /// Writes the lines of the operations to which the steps lead, one after the other.
-fn push_steps(
-    out: &mut String,
-    named: NamedHistory<'_>,
-    from: OpName,
-    names: &[OpName],
-) -> Result<(), AllocError>
+fn push_steps(out: &mut String, named: NamedHistory<'_>, from: OpName, names: &[OpName]) -> Written
     ensures { OnOk result (string_bytes out.new
         ≡ string_bytes out.old ++ step_lines (named_of named.entry) from names.now) }
 {
@@ -45,11 +34,7 @@ fn push_steps(
 }
 
 /// Writes the lines of a chain.
-pub fn push_chain(
-    out: &mut String,
-    named: NamedHistory<'_>,
-    chain: &[OpName],
-) -> Result<(), AllocError>
+pub fn push_chain(out: &mut String, named: NamedHistory<'_>, chain: &[OpName]) -> Written
     ensures { OnOk result (string_bytes out.new ≡ string_bytes out.old ++ chain_text (named_of named.entry) chain.now) }
 {
     match chain {

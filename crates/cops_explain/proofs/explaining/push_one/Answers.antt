@@ -1,8 +1,8 @@
 use Rattle.std.proofs.Common.{◌∙◌, sym}
 use Rattle.cops_audit.proofs.FaultLemmas.{number_fault}
-use Rattle.cops_explain.specs.Indexed.{history_of}
+use Rattle.cops_explain.specs.Refused.{history_of}
 use Rattle.cops_explain.proofs.explaining.push_one.Goals as goal
 
 pub push_paragraph-requires-clause-fault : goal.push_paragraph-requires-clause-fault
 push_paragraph-requires-clause-fault c =
-    number_fault (history_of c.args.indexed).sessions c.args.faults.now c.requires.verdict c.args.number c.in-Some.fault (sym c.of_number.ensures ∙ c.in-Some.is)
+    number_fault (history_of c.args.refused).sessions c.args.refused.faults.now c.requires.faults c.args.number c.in-Some.fault (sym c.of_number.ensures ∙ c.in-Some.is)

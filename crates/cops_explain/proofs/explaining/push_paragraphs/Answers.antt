@@ -1,7 +1,7 @@
 use Rattle.std.proofs.Common.{◌∙◌, sym}
 use Rattle.std.specs.Prelude.{string_bytes}
 use Rattle.cops_audit.specs.Faults.{faults_of}
-use Rattle.cops_explain.specs.Indexed.{history_of}
+use Rattle.cops_explain.specs.Refused.{history_of}
 use Rattle.cops_audit.proofs.FaultLemmas.{verdict_fault}
 use Rattle.cops_explain.proofs.ParagraphLemmas.{none_added, paragraph_more, paragraphs_past}
 use Rattle.cops_explain.proofs.explaining.push_paragraphs.Goals as goal
@@ -9,15 +9,15 @@ use Rattle.cops_explain.proofs.explaining.push_paragraphs.Goals.{in-Some+in_ok-p
 
 pub push_paragraph-requires-clause-fault : goal.push_paragraph-requires-clause-fault
 push_paragraph-requires-clause-fault c =
-    verdict_fault (history_of c.args.indexed).sessions c.args.faults.now c.requires.verdict c.loop-place.place c.in-Some.fault (sym c.get.ensures ∙ c.in-Some.is)
+    verdict_fault (history_of c.args.refused).sessions c.args.refused.faults.now c.requires.faults c.loop-place.place c.in-Some.fault (sym c.get.ensures ∙ c.in-Some.is)
 
 pub loop-place-init : goal.loop-place-init
-loop-place-init c = none_added (history_of c.args.indexed) (string_bytes c.args.out.now)
+loop-place-init c = none_added (history_of c.args.refused) (string_bytes c.args.out.now)
 
 pub loop-place-preserved : goal.loop-place-preserved
 loop-place-preserved c =
-    let h = history_of c.args.indexed in
-    let faults = faults_of c.args.faults.now in
+    let h = history_of c.args.refused in
+    let faults = faults_of c.args.refused.faults.now in
     let start = string_bytes c.args.out.now in
     let old = string_bytes c.loop-place.out in
     elim c.match-get.branch [

@@ -3,13 +3,13 @@ use Rattle.std.specs.Prelude.{MatchOption}
 use Rattle.cops_types.specs.declared.op.OpName.{OpName}
 use Rattle.cops_report.specs.Chains.{HasNoChain, IsFirstChain}
 use Rattle.cops_report.proofs.ChainLemmas.{past_chain}
-use Rattle.cops_explain.specs.Indexed.{history_of}
+use Rattle.cops_explain.specs.Refused.{history_of}
 use Rattle.cops_explain.specs.Paragraphs.{stale_text}
 use Rattle.cops_explain.proofs.paragraphs.stale.Goals as goal
 
 pub unreachable-requires : goal.unreachable-requires
 unreachable-requires c =
-    let h = (history_of c.args.indexed).sessions in
+    let h = (history_of c.args.refused).sessions in
     let newer = c.args.fault.newer in
     let op = c.args.fault.op in
     let names = past_chain h newer op c.requires.stale.is_newer.past in
@@ -19,7 +19,7 @@ unreachable-requires c =
 
 pub returns : goal.returns
 returns c =
-    let h = history_of c.args.indexed in
+    let h = history_of c.args.refused in
     let newer = c.args.fault.newer in
     let op = c.args.fault.op in
     let Found : Option (Vec OpName Global) → Type 0 = λ o. MatchOption o (HasNoChain h.sessions newer op) (λ v. IsFirstChain h.sessions newer op v.items) in

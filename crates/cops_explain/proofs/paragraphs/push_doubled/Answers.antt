@@ -1,5 +1,0 @@
-use Rattle.cops_explain.proofs.TextLemmas.{three}
-use Rattle.cops_explain.proofs.paragraphs.push_doubled.Goals as goal
-
-pub returns : goal.returns
-returns c = three c.push_others.result _ _ _ _ _ _ _ c.in_ok-push_line.ensures c.in_ok-push_str.ensures.bytes c.push_others.ensures
