@@ -1,5 +1,5 @@
 //! The check of lines.
-ghost use Rattle.std.specs.Prelude.{◌≡◌, ◌⊎◌, IfErr, IfOk, IfSome, IsErrOf, None, false, map, true};
+ghost use Rattle.std.specs.Prelude.{◌≡◌, ◌⊎◌, [], Some, IfErr, IfOk, IfSome, IsErrOf, None, false, map, true};
 ghost use Rattle.std.specs.Io.KnownBytes.{Keeps};
 ghost use Rattle.cops_types.specs.Counted.{failures, inner};
 ghost use Rattle.cops_types.specs.Failures.{ReportsFailure};
@@ -8,7 +8,7 @@ ghost use Rattle.cops_import.specs.Faults.{IsFirstFaulty};
 ghost use Rattle.cops_import.specs.Imports.{IsImport};
 ghost use Rattle.cops_import.specs.Lines.{lines};
 ghost use Rattle.cops_audit_commands.specs.declared.audit.Answer.TheVariants as answer;
-ghost use Rattle.cops_explain.specs.declared.naming.Naming.TheVariants as naming;
+ghost use Rattle.cops_explain.specs.declared.naming.Naming.TheVariants.{Lines};
 ghost use Rattle.cops_check.specs.Check.{CheckSays, DescribesConvergent, DrawingSays, WritesChecked, WritesPrefixChecked, wrong_text};
 ghost use Rattle.cops_check.specs.Numbers.{numbers_from, op_lines};
 
@@ -40,8 +40,8 @@ fn copied(alloc: Global, names: &Names) -> Result<Vec<Vec<u8>>, AllocError>
 }
 
 /// What the lines of a text call the operations of their trace, whose clients have these names.
-fn naming(alloc: Global, bytes: &[u8], names: &Names, trace: &Trace) -> Result<Naming, AllocError>
-    ensures { IfOk result (λ naming. naming ≡ naming.Lines (record {
+fn naming_of(alloc: Global, bytes: &[u8], names: &Names, trace: &Trace) -> Result<Naming, AllocError>
+    ensures { IfOk result (λ naming. naming ≡ Lines (record {
         names = names.now;
         lines = op_lines trace.now.clients (map (λ r. r.client) trace.now.records) (numbers_from 1 (lines bytes.now));
     })) }
@@ -73,7 +73,7 @@ fn judged(
         Err(_) => return Err(CheckFault::Memory),
     };
     drop(text);
-    let naming = naming(alloc, bytes, &names, &trace)?;
+    let naming = naming_of(alloc, bytes, &names, &trace)?;
     Ok(explanation(alloc, &trace, &naming, request)?)
 }
 

@@ -38,16 +38,14 @@ fn no_numbers(alloc: Global, clients: u16) -> Result<Vec<Vec<u64>>, AllocError>
 }
 
 /// Adds a number at the end of its client's, if there is such a client.
-fn add_number(table: &mut [Vec<u64>], client: u16, number: u64) -> Result<(), AllocError>
-    ensures { OnOk result (map (λ numbers. numbers.items) table.new ≡ with_number (map (λ numbers. numbers.items) table.old) client number) }
+fn add_number(table: &mut Vec<Vec<u64>>, client: u16, number: u64) -> Result<(), AllocError>
+    ensures { OnOk result (map (λ numbers. numbers.items) table.new.items ≡ with_number (map (λ numbers. numbers.items) table.old.items) client number) }
 {
-    match table.get_mut(usize::from(client)) {
-        Some(numbers) => {
-            numbers.push(number)?;
-            Ok(())
-        }
-        None => Ok(()),
+    let at = usize::from(client);
+    if at < table.len() {
+        table[at].push(number)?;
     }
+    Ok(())
 }
 
 /// For each of so many clients the numbers of the lines of its operations: `arrivals` has the clients of operations in

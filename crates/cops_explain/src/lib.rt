@@ -28,7 +28,6 @@ mod steps;
 mod style;
 
 pub use explaining::explain;
-pub use indexed::Indexed;
 pub use laws::{known_by_its_client, one_explanation};
 pub use limits::{FIRST_FAULTS, MOST_OTHERS, VALUE_BYTES};
 pub use naming::{LineNames, NamedHistory, Naming};

@@ -194,13 +194,13 @@ fn push_shown(out: &mut String, refused: Refused<'_>, fault: Fault) -> Result<()
     let named = refused.named;
     match fault {
         Fault::Doubled(name) => {
-            let others = others(refused, name)?;
+            let others = others(refused.alloc, refused.named.history, refused.puts, name)?;
             let words = "no other put may have that version, and these do:\n";
             push_said(out, named, name, words)?;
             push_others(out, named, &others)?;
         }
         Fault::NoSource(name) => {
-            let holders = others(refused, name)?;
+            let holders = others(refused.alloc, refused.named.history, refused.puts, name)?;
             push_said(out, named, name, "no put has that key, value and version\n")?;
             push_holders(out, named, &holders)?;
         }

@@ -15,7 +15,7 @@ ghost use Rattle.cops_explain_json.specs.Explanations.{IsOne};
 use crate::object::Object;
 use crate::operations::{add_operation, operation_json, operations_json};
 use cops_audit::{Fault, Faults, Stale};
-use cops_explain::{Indexed, MOST_OTHERS, NamedHistory, other_puts};
+use cops_explain::{MOST_OTHERS, NamedHistory, other_puts};
 use cops_report::chain_by;
 use cops_types::{History, Memory, OpName, VersionedPut};
 use serde_json::Value as Json;
@@ -81,17 +81,13 @@ fn add_shown(
     requires fault { IsFault named.now.history.now.sessions fault }
     ensures { OnOk result (AddsShown (seen named.now) fault (members_in object.old) (members_in object.new)) }
 {
-    let indexed = Indexed {
-        named: *named,
-        puts,
-    };
     match fault {
         Fault::Doubled(op) => {
-            let others = other_puts(alloc, indexed, op)?;
+            let others = other_puts(alloc, named.history, puts, op)?;
             add_puts(alloc, object, named, &others)?;
         }
         Fault::NoSource(op) => {
-            let others = other_puts(alloc, indexed, op)?;
+            let others = other_puts(alloc, named.history, puts, op)?;
             add_puts(alloc, object, named, &others)?;
         }
         Fault::NotAbove(fault) => {
