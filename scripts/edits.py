@@ -10,7 +10,7 @@ FUNCTION = re.compile(r"(?m)^( *)(?:pub(?:\([^)]*\))? )?(?:const )?fn (\w+)")
 FUNCTION_PATH = re.compile(r"::\w+\Z")
 COUNTS = re.compile(r"only=(\d+) proved=(\d+)\Z")
 # A function that is refused only because of one that it calls. If several mutations are tried together, another mutation may be the cause.
-FOR_ANOTHER = re.compile(r": not proved; it calls `[^`]*`")
+FOR_ANOTHER = re.compile(r": (?:not proved;|no proof:) it calls `[^`]*`")
 
 
 def module_of(path):
