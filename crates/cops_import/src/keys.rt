@@ -3,6 +3,7 @@ ghost use Rattle.std.specs.Prelude.{◌≡◌, ◌≢◌, ◌<◌, ℕ, length, 
 ghost use Rattle.std.specs.List.{AllPairs, HoldsAt};
 
 use crate::store_version::StoreVersion;
+use std::alloc::{AllocError, Global};
 use std::cmp::Ordering;
 
 /// Versions of another store, all of one kind.
@@ -29,23 +30,34 @@ impl Keys {
         }
     }
 
-    /// The same versions, each once, in increasing order.
-    pub(crate) fn in_order(self) -> Keys
-        ensures { IsIncreasing (all_stored result) }
+    /// No versions, of the kind of this one.
+    pub(crate) fn like(alloc: Global, version: &StoreVersion) -> Keys {
+        match version {
+            StoreVersion::Number(_) => Keys::Numbers(Vec::new(alloc)),
+            StoreVersion::Text(_) => Keys::Texts(Vec::new(alloc)),
+            StoreVersion::Pair(_) => Keys::Pairs(Vec::new(alloc)),
+        }
+    }
+
+    /// Adds a version at the end, if it has the kind of these.
+    pub(crate) fn push(&mut self, version: StoreVersion) -> Result<(), AllocError> {
+        match (self, version) {
+            (Keys::Numbers(numbers), StoreVersion::Number(number)) => numbers.push(number)?,
+            (Keys::Texts(texts), StoreVersion::Text(text)) => texts.push(text)?,
+            (Keys::Pairs(pairs), StoreVersion::Pair(pair)) => pairs.push(pair)?,
+            _ => {}
+        }
+        Ok(())
+    }
+
+    /// Puts the versions in increasing order, and drops all but one of those that are equal.
+    pub(crate) fn sort(&mut self)
+        ensures { IsIncreasing (all_stored self.new) }
     {
         match self {
-            Keys::Numbers(mut numbers) => {
-                tidy(&mut numbers);
-                Keys::Numbers(numbers)
-            }
-            Keys::Texts(mut texts) => {
-                tidy(&mut texts);
-                Keys::Texts(texts)
-            }
-            Keys::Pairs(mut pairs) => {
-                tidy(&mut pairs);
-                Keys::Pairs(pairs)
-            }
+            Keys::Numbers(numbers) => tidy(numbers),
+            Keys::Texts(texts) => tidy(texts),
+            Keys::Pairs(pairs) => tidy(pairs),
         }
     }
 
@@ -77,7 +89,7 @@ impl Keys {
 }
 
 /// Sorts keys, and drops all but one of those that are equal.
-pub(crate) fn tidy<K: Ord + Drop>(keys: &mut Vec<K>)
+fn tidy<K: Ord + Drop>(keys: &mut Vec<K>)
     ensures { AllPairs (λ a b. K.cmp a b ≡ Ordering.Less) keys.new.items }
 {
     keys.sort_unstable();

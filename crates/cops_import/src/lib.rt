@@ -3,9 +3,9 @@
 //! the one trace that all lines together describe, and that a line reported as faulty is the first wrong one.
 #![tactic(auto)]
 
-mod count;
 mod fault;
 mod field;
+mod found;
 mod imported;
 mod importer;
 mod keys;
@@ -17,10 +17,11 @@ mod not_given;
 mod ranks;
 mod reading;
 mod rules;
+mod seen;
 mod store_version;
+mod surveying;
 mod version;
 
-pub use count::count_clients;
 pub use fault::{ImportFault, JsonLineFault, faulty_line};
 pub use imported::{Imported, Unimported};
 pub use laws::{lines_determine_one, ranks_keep_order};
@@ -30,3 +31,4 @@ pub use names::Names;
 pub use ranks::Ranks;
 pub use reading::import_stream;
 pub use rules::{Rules, Versions};
+pub use surveying::{Surveyed, survey};

@@ -42,8 +42,8 @@ impl Ranks {
     ghost use Rattle.cops_import.specs.Stores.{AreRanks, IsOfKind, IsRankOf, stored};
 
     /// The ranks of versions that may stand in any order. Nothing if there are 2^48 of them.
-    pub(crate) fn new(keys: Keys) -> Option<Ranks> {
-        let keys = keys.in_order();
+    pub(crate) fn new(mut keys: Keys) -> Option<Ranks> {
+        keys.sort();
         if keys.len() < MOST {
             Some(Ranks { keys })
         } else {

@@ -3,7 +3,7 @@ use Rattle.std.specs.Ordering.{nat_cmp, ordering_then}
 use Rattle.std.specs.Prelude.{string_cmp}
 use Rattle.cops_import.specs.Stores.{number}
 use Rattle.cops_import.proofs.OfKind.{increasing_of, pair_of, text_of}
-use Rattle.cops_import.proofs.keys.Keys.in_order.Goals as goal
+use Rattle.cops_import.proofs.keys.Keys.sort.Goals as goal
 
 pub returns-in-Numbers : goal.returns-in-Numbers
 returns-in-Numbers c = increasing_of number nat_cmp (λ x y. refl) c.tidy.new.keys.items c.tidy.ensures
