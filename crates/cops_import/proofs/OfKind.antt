@@ -3,16 +3,16 @@ use Rattle.std.proofs.Common.{◌≡◌, ◌≢◌, ◌<◌, ℕ, List, [], ◌�
 use Rattle.std.specs.Prelude.{Option, Some, None, slice_get, String, string_bytes, IsTrue, IfNone, IfSome, ◌↔◌, ◌==◌}
 use Rattle.std.specs.Cmp.{IsTotalOrder}
 use Rattle.std.specs.Cmp.Lexicographic.{slice_cmp}
-use Rattle.std.specs.List.{All, AllPairs, Contains, HoldsAt}
+use Rattle.std.specs.List.{AllPairs, Contains, HoldsAt}
 use Rattle.std.specs.Ordering.{nat_cmp, ordering_then}
 use Rattle.std.specs.declared.cmp.Ordering.{Ordering}
 use Rattle.std.specs.declared.cmp.Ordering.TheVariants.{Less, Equal, Greater}
 use borrow.Author.Tests.{eqb-true}
 use Rattle.std.proofs.lemmas.Cmp.{tied_itself}
-use Rattle.std.proofs.lemmas.List.{get_or-map, get_or_default, length-map}
+use Rattle.std.proofs.lemmas.List.{get_or-map, length-map}
 use Rattle.std.proofs.lemmas.Map.Lookups.{exact_bytes, exact_unsigned}
 use Rattle.std.proofs.lemmas.Option.{slice_get-get_or}
-use Rattle.cops_import.specs.Stores.{AStoreVersion, number, text, pair, order, stored, IsBelow, IsIncreasing, IsOfKind}
+use Rattle.cops_import.specs.Stores.{AStoreVersion, number, text, pair, order, stored, IsIncreasing, IsOfKind}
 use Rattle.cops_import.specs.declared.store_version.StoreVersion.{StoreVersion}
 use Rattle.cops_import.specs.declared.store_version.StoreVersion.TheVariants as rust
 

@@ -27,7 +27,8 @@ IsTooMany given reported _ = ⊥
 
 -- what is wrong with a line after lines with these operations: the line itself is faulty, or its operation exceeds a limit
 abbrev pub IsFaultyAfter : Rules → List LineOp → List ℕ → JsonLineFault → Type 0
-IsFaultyAfter rules given line fault = IsFaulty rules line fault ⊎ ((reported : LineOp) × LineGives rules line (Some reported) × IsTooMany given reported fault)
+IsFaultyAfter rules given line fault =
+    IsFaulty rules line fault ⊎ ((reported : LineOp) × LineGives rules line (Some reported) × IsTooMany given reported fault)
 
 -- the first wrong line, counted from 1
 pub record IsFirstFaulty (rules : Rules) (bytes : List ℕ) (number : ℕ) (fault : JsonLineFault) : Type 0 where

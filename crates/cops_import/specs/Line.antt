@@ -108,9 +108,11 @@ GivesContent format d _ _ = ⊥
 
 abbrev pub GivesOp : Rules → Data → Op → Type 0
 GivesOp rules d (op.Put key value version) = AsksKey d Put key × GivesContent rules.format d Put (Some value) × GivesVersion rules.versions d version
-GivesOp rules d (op.Del key version) = AsksKey d Del key × GivesContent rules.format d Del None × GivesVersion rules.versions d version × Fits rules.format None
+GivesOp rules d (op.Del key version) =
+    AsksKey d Del key × GivesContent rules.format d Del None × GivesVersion rules.versions d version × Fits rules.format None
 GivesOp rules d (op.Got key value version) = AsksKey d Get key × GivesContent rules.format d Get (Some value) × GivesVersion rules.versions d version
-GivesOp rules d (op.Gone key version) = AsksKey d Get key × GivesContent rules.format d Get None × GivesVersion rules.versions d version × Fits rules.format None
+GivesOp rules d (op.Gone key version) =
+    AsksKey d Get key × GivesContent rules.format d Get None × GivesVersion rules.versions d version × Fits rules.format None
 GivesOp rules d (op.Missed key) = AsksKey d Get key × FoundNothing d
 
 -- the object has this client's name and this operation
@@ -192,7 +194,8 @@ IsUnranked versions d = (at : Data) × (get (codes "version") d ≡ Some at) × 
 -- the object's operation has such a version, and the members checked before are right
 abbrev pub LacksRank : Rules → Data → Type 0
 LacksRank rules d =
-    HasName d × ((kind : Kind) × (key : List ℕ) × AsksKey d kind key × ((content : Option (List ℕ)) × GivesContent rules.format d kind content × IsUnranked rules.versions d))
+    HasName d × ((kind : Kind) × (key : List ℕ) × AsksKey d kind key
+    × ((content : Option (List ℕ)) × GivesContent rules.format d kind content × IsUnranked rules.versions d))
 
 abbrev pub TextLacksRank : Rules → List ℕ → Type 0
 TextLacksRank rules line = (d : Data) × IsJson line d × LacksRank rules d

@@ -1,6 +1,7 @@
 //! Imports JSON Lines as a trace: each line is one operation of a client, in the order of each client. Stands on
 //! traces, on the writer of their texts and on `serde_json`. The layers above use that what was written is the text of
-//! the one trace that all lines together describe, and that a line reported as faulty is the first wrong one.
+//! the one trace that all lines together describe, that a line reported as faulty is the first wrong one, and that ranks
+//! keep the order of another store's versions.
 #![tactic(auto)]
 
 mod fault;

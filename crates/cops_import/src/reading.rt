@@ -21,12 +21,12 @@ pub(crate) const PIECE: usize = 65_536;
 pub(crate) const READS: u64 = 1 << 40;
 
 /// Writes the trace that JSON Lines describe: one operation a line, in the order of each client, with the members that
-/// README.md lists. It keeps the names, the number of operations of each client, and one line in memory. On `Ok` the
-/// text is whole; on `Err` it is cut. A failed read or write is not tried again.
+/// README.md lists, read as the rules say. It keeps the rules, the names, the number of operations of each client, and
+/// one line in memory. On `Ok` the text is whole; on `Err` it is cut. A failed read or write is not tried again.
 ///
 /// Errors: `Memory` if memory runs out, `ReadFailed` and `WriteFailed` if a read or a write fails, `Line` with the
-/// number, from 1, of the first wrong line, `Changed` if the lines do not name exactly `clients` clients, `Endless` if
-/// they do not end within 2^40 reads or there are 2^64 of them.
+/// number, from 1, of the first wrong line, `Changed` if the lines do not name exactly `clients` clients or a version has
+/// no rank, `Endless` if they do not end within 2^40 reads or there are 2^64 of them.
 pub fn import_stream<R: Read, W: Write>(
     alloc: Global,
     rules: Rules,
