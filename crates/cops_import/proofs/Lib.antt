@@ -1,4 +1,6 @@
 pub mod Asked
+pub mod OfKind
+pub mod InOrder
 pub mod Numbering
 pub mod Splitting
 pub mod Records

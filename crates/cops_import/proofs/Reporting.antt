@@ -5,6 +5,8 @@ use Rattle.std.proofs.lemmas.Bool.{ne_eqb}
 use Rattle.std.proofs.lemmas.Fmt.{decimal_injective}
 use Rattle.std.proofs.lemmas.List.{append_cancel_left}
 use Rattle.std.proofs.lemmas.List.Elements.{All-from_get_or}
+use Rattle.std.specs.List.{Contains}
+use Rattle.std.proofs.lemmas.Option.{get_or_from_slice_get, slice_get_within}
 use Rattle.std.proofs.lemmas.List.Splits.{slice_split_at}
 use Rattle.std.specs.List.{slice_split}
 use Rattle.serde_json.specs.Data.{Data, null}
@@ -17,7 +19,7 @@ use Rattle.cops_types.specs.declared.format.Format.TheVariants.{One}
 use Rattle.cops_types.specs.declared.op.Op.{Op}
 use Rattle.cops_types.specs.declared.op.Op.TheVariants as op
 use Rattle.cops_json.specs.Json.{text_json}
-use Rattle.cops_import.specs.Line.{AsksKey, FoundNothing, HasSeveral, IsAsked, IsFaulty, IsJson, IsNameJson, IsVersionJson, IsWrong, IsWrongIn, LacksFormat, LacksValue, LacksVersion, LineGives, Gives, GivesContent, GivesName, GivesOp, GivesValue, GivesVersion, TextGives}
+use Rattle.cops_import.specs.Line.{AsksKey, FoundNothing, HasForm, HasNoVersion, HasSeveral, IsAsked, IsOrdered, IsUnranked, IsFaulty, IsJson, IsNameJson, IsVersionJson, IsVersionOf, IsWrong, IsWrongIn, LacksFormat, LacksValue, LacksVersion, LacksRank, LineGives, LineLacksRank, Gives, GivesContent, GivesName, GivesOp, GivesValue, GivesVersion, TextGives}
 use Rattle.cops_import.specs.Lines.{GiveAfter, with_reported}
 use Rattle.cops_import.specs.declared.fault.JsonLineFault.{JsonLineFault}
 use Rattle.cops_import.specs.declared.fault.JsonLineFault.TheVariants.{NoJson, NoClient, NoOperation, BothOperations, BadKey, BadValue, BadVersion, NeedsFormat2, TooManyClients, TooManyOperations}
@@ -25,6 +27,11 @@ use Rattle.cops_import.specs.declared.line.Kind.{Kind}
 use Rattle.cops_import.specs.declared.line.Kind.TheVariants.{Put, Get, Del}
 use Rattle.cops_import.specs.declared.line.LineOp.{LineOp}
 use Rattle.cops_json.proofs.Versions.{clock_fits, no_dot}
+use Rattle.cops_import.specs.Stores.{AStoreVersion, number, text, pair, store_json, IsRankOf}
+use Rattle.cops_import.specs.declared.rules.Rules.{Rules}
+use Rattle.cops_import.specs.declared.rules.Versions.{Versions}
+use Rattle.cops_import.specs.declared.rules.Versions.TheVariants.{Plain, Ranked}
+use Rattle.cops_import.proofs.InOrder.{kind_one, rank_one}
 
 -- ---- at most one name and one version
 
@@ -72,12 +79,29 @@ version_in v w x is also (inr (inr p)) (inl q) = absurd cc
 version_in v w x is also (inr (inr p)) (inr (inl q)) = let f = q.0 in absurd cc
 version_in v w x is also (inr (inr p)) (inr (inr q)) = let c : clock_of v ≡ clock_of w = cc in let n : node_of v ≡ node_of w = cc in same_version v w c n
 
-version_one : (d : Data) (v w : ℕ) → GivesVersion d v → GivesVersion d w → v ≡ w
-version_one d v w p q =
+plain_one : (d : Data) (v w : ℕ) → GivesVersion Plain d v → GivesVersion Plain d w → v ≡ w
+plain_one d v w p q =
     let e = p.1 in
     let f = q.1 in
     let same : p.0 ≡ q.0 = cc in
     version_in v w q.0 p.3 q.3 (subst (IsVersionJson v) same p.2) q.2
+
+-- two versions of a store with one JSON are equal
+store_one : (a b : AStoreVersion) → store_json a ≡ store_json b → a ≡ b
+store_one (number m) (number n) e = let same : m ≡ n = cc in ap number same
+store_one (text x) (text y) e = let same : x ≡ y = cc in ap text same
+store_one (pair m x) (pair n y) e = let first : m ≡ n = cc in let second : x ≡ y = cc in cc
+store_one _ _ e = absurd cc
+
+version_one : (versions : Versions) → IsOrdered versions → (d : Data) (v w : ℕ) → GivesVersion versions d v → GivesVersion versions d w → v ≡ w
+version_one Plain ordered d v w p q = plain_one d v w p q
+version_one (Ranked all) ordered d v w p q =
+    let e = p.1 in
+    let f = q.1 in
+    let first = p.2.1 in
+    let second = q.2.1 in
+    let json : store_json p.2.0 ≡ store_json q.2.0 = cc in
+    rank_one all ordered p.2.0 v w p.2.2 (subst (λ (a : AStoreVersion). IsRankOf all a w) (sym (store_one p.2.0 q.2.0 json)) q.2.2)
 
 value_one : (format : Format) (d : Data) (a b : List ℕ) → GivesValue format d a → GivesValue format d b → a ≡ b
 value_one format d a b p q = let e = p.0 in let f = q.0 in cc
@@ -118,97 +142,105 @@ key_in (op.Got key value version) = key
 key_in (op.Gone key version) = key
 key_in (op.Missed key) = key
 
-asks_of : (format : Format) (d : Data) (o : Op) → GivesOp format d o → AsksKey d (kind_of o) (key_in o)
-asks_of format d (op.Put key value version) reported = reported.0
-asks_of format d (op.Del key version) reported = reported.0
-asks_of format d (op.Got key value version) reported = reported.0
-asks_of format d (op.Gone key version) reported = reported.0
-asks_of format d (op.Missed key) reported = reported.0
+asks_of : (rules : Rules) (d : Data) (o : Op) → GivesOp rules d o → AsksKey d (kind_of o) (key_in o)
+asks_of rules d (op.Put key value version) reported = reported.0
+asks_of rules d (op.Del key version) reported = reported.0
+asks_of rules d (op.Got key value version) reported = reported.0
+asks_of rules d (op.Gone key version) reported = reported.0
+asks_of rules d (op.Missed key) reported = reported.0
 
-same_kind : (format : Format) (d : Data) (a b : Op) → GivesOp format d a → GivesOp format d b → kind_of a ≡ kind_of b
-same_kind format d a b p q = (key_one d (kind_of a) (kind_of b) (key_in a) (key_in b) (asks_of format d a p) (asks_of format d b q)).0
+same_kind : (rules : Rules) (d : Data) (a b : Op) → GivesOp rules d a → GivesOp rules d b → kind_of a ≡ kind_of b
+same_kind rules d a b p q = (key_one d (kind_of a) (kind_of b) (key_in a) (key_in b) (asks_of rules d a p) (asks_of rules d b q)).0
 
-op_one : (format : Format) (d : Data) (a b : Op) → GivesOp format d a → GivesOp format d b → a ≡ b
-op_one format d (op.Put k x v) (op.Put l y w) p q =
+op_one : (rules : Rules) → IsOrdered rules.versions → (d : Data) (a b : Op) → GivesOp rules d a → GivesOp rules d b → a ≡ b
+op_one rules ordered d (op.Put k x v) (op.Put l y w) p q =
     let key : k ≡ l = (key_one d Put Put k l p.0 q.0).1 in
-    let value : x ≡ y = value_one format d x y p.1 q.1 in
-    let version : v ≡ w = version_one d v w p.2 q.2 in
+    let value : x ≡ y = value_one rules.format d x y p.1 q.1 in
+    let version : v ≡ w = version_one rules.versions ordered d v w p.2 q.2 in
     cc
-op_one format d (op.Del k v) (op.Del l w) p q =
+op_one rules ordered d (op.Del k v) (op.Del l w) p q =
     let key : k ≡ l = (key_one d Del Del k l p.0 q.0).1 in
-    let version : v ≡ w = version_one d v w p.2 q.2 in
+    let version : v ≡ w = version_one rules.versions ordered d v w p.2 q.2 in
     cc
-op_one format d (op.Got k x v) (op.Got l y w) p q =
+op_one rules ordered d (op.Got k x v) (op.Got l y w) p q =
     let key : k ≡ l = (key_one d Get Get k l p.0 q.0).1 in
-    let value : x ≡ y = value_one format d x y p.1 q.1 in
-    let version : v ≡ w = version_one d v w p.2 q.2 in
+    let value : x ≡ y = value_one rules.format d x y p.1 q.1 in
+    let version : v ≡ w = version_one rules.versions ordered d v w p.2 q.2 in
     cc
-op_one format d (op.Gone k v) (op.Gone l w) p q =
+op_one rules ordered d (op.Gone k v) (op.Gone l w) p q =
     let key : k ≡ l = (key_one d Get Get k l p.0 q.0).1 in
-    let version : v ≡ w = version_one d v w p.2 q.2 in
+    let version : v ≡ w = version_one rules.versions ordered d v w p.2 q.2 in
     cc
-op_one format d (op.Missed k) (op.Missed l) p q = let key : k ≡ l = (key_one d Get Get k l p.0 q.0).1 in cc
-op_one format d (op.Got k x v) (op.Gone l w) p q = absurd (not_null format d x p.1 q.1.0)
-op_one format d (op.Gone k v) (op.Got l y w) p q = absurd (not_null format d y q.1 p.1.0)
-op_one format d (op.Got k x v) (op.Missed l) p q = absurd (something format d (Some x) p.1 q.1)
-op_one format d (op.Gone k v) (op.Missed l) p q = absurd (something format d None p.1 q.1)
-op_one format d (op.Missed k) (op.Got l y w) p q = absurd (something format d (Some y) q.1 p.1)
-op_one format d (op.Missed k) (op.Gone l w) p q = absurd (something format d None q.1 p.1)
-op_one format d (op.Put k x v) b p q = let e = same_kind format d (op.Put k x v) b p q in absurd cc
-op_one format d (op.Del k v) b p q = let e = same_kind format d (op.Del k v) b p q in absurd cc
-op_one format d a (op.Put l y w) p q = let e = same_kind format d a (op.Put l y w) p q in absurd cc
-op_one format d a (op.Del l w) p q = let e = same_kind format d a (op.Del l w) p q in absurd cc
+op_one rules ordered d (op.Missed k) (op.Missed l) p q = let key : k ≡ l = (key_one d Get Get k l p.0 q.0).1 in cc
+op_one rules ordered d (op.Got k x v) (op.Gone l w) p q = absurd (not_null rules.format d x p.1 q.1.0)
+op_one rules ordered d (op.Gone k v) (op.Got l y w) p q = absurd (not_null rules.format d y q.1 p.1.0)
+op_one rules ordered d (op.Got k x v) (op.Missed l) p q = absurd (something rules.format d (Some x) p.1 q.1)
+op_one rules ordered d (op.Gone k v) (op.Missed l) p q = absurd (something rules.format d None p.1 q.1)
+op_one rules ordered d (op.Missed k) (op.Got l y w) p q = absurd (something rules.format d (Some y) q.1 p.1)
+op_one rules ordered d (op.Missed k) (op.Gone l w) p q = absurd (something rules.format d None q.1 p.1)
+op_one rules ordered d (op.Put k x v) b p q = let e = same_kind rules d (op.Put k x v) b p q in absurd cc
+op_one rules ordered d (op.Del k v) b p q = let e = same_kind rules d (op.Del k v) b p q in absurd cc
+op_one rules ordered d a (op.Put l y w) p q = let e = same_kind rules d a (op.Put l y w) p q in absurd cc
+op_one rules ordered d a (op.Del l w) p q = let e = same_kind rules d a (op.Del l w) p q in absurd cc
 
-reported_one : (format : Format) (d : Data) (a b : LineOp) → Gives format d a → Gives format d b → a ≡ b
-reported_one format d a b p q =
+reported_one : (rules : Rules) → IsOrdered rules.versions → (d : Data) (a b : LineOp) → Gives rules d a → Gives rules d b → a ≡ b
+reported_one rules ordered d a b p q =
     let name : a.name ≡ b.name = name_one d a.name b.name p.0 q.0 in
-    let ops : a.op ≡ b.op = op_one format d a.op b.op p.1 q.1 in
+    let ops : a.op ≡ b.op = op_one rules ordered d a.op b.op p.1 q.1 in
     λ i. record { name = name i; op = ops i }
 
 json_one : (line : List ℕ) (d e : Data) → IsJson line d → IsJson line e → d ≡ e
 json_one line d e p q = let f = p.1 in let g = q.1 in cc
 
 -- two operations of one line are equal
-line_one : (format : Format) (line : List ℕ) (a b : Option LineOp) → LineGives format line a → LineGives format line b → a ≡ b
-line_one format line None None p q = refl
-line_one format line None (Some b) p q = absurd (q.0 p)
-line_one format line (Some a) None p q = absurd (p.0 q)
-line_one format line (Some a) (Some b) p q =
+line_one : (rules : Rules) → IsOrdered rules.versions → (line : List ℕ) (a b : Option LineOp) → LineGives rules line a → LineGives rules line b → a ≡ b
+line_one rules ordered line None None p q = refl
+line_one rules ordered line None (Some b) p q = absurd (q.0 p)
+line_one rules ordered line (Some a) None p q = absurd (p.0 q)
+line_one rules ordered line (Some a) (Some b) p q =
     let same = json_one line p.1.0 q.1.0 p.1.1 q.1.1 in
-    ap Some (reported_one format q.1.0 a b (subst (λ (d : Data). Gives format d a) same p.1.2) q.1.2)
+    ap Some (reported_one rules ordered q.1.0 a b (subst (λ (d : Data). Gives rules d a) same p.1.2) q.1.2)
 
-pub lines_one : (format : Format) (earlier : List LineOp) (ls : List (List ℕ)) (a b : List LineOp) → GiveAfter format earlier ls a → GiveAfter format earlier ls b → a ≡ b
-lines_one format earlier [] a b p q = p ∙ sym q
-lines_one format earlier (line ∷ ls) a b p q =
-    let same = line_one format line p.0 q.0 p.1 q.1 in
-    lines_one format (with_reported earlier q.0) ls a b (subst (λ (t : Option LineOp). GiveAfter format (with_reported earlier t) ls a) same p.2) q.2
+pub lines_one : (rules : Rules) → IsOrdered rules.versions → (earlier : List LineOp) (ls : List (List ℕ)) (a b : List LineOp) → GiveAfter rules earlier ls a → GiveAfter rules earlier ls b → a ≡ b
+lines_one rules ordered earlier [] a b p q = p ∙ sym q
+lines_one rules ordered earlier (line ∷ ls) a b p q =
+    let same = line_one rules ordered line p.0 q.0 p.1 q.1 in
+    lines_one rules ordered (with_reported earlier q.0) ls a b (subst (λ (t : Option LineOp). GiveAfter rules (with_reported earlier t) ls a) same p.2) q.2
 
 -- ---- a line with an operation is not faulty
 
-lacks_value : (format : Format) (d : Data) (o : Op) → GivesOp format d o → LacksValue format d (kind_of o) → ⊥
-lacks_value format d (op.Put k x v) reported lacks = lacks.0 (Some x) reported.1
-lacks_value format d (op.Del k v) reported lacks = lacks.0 None reported.1
-lacks_value format d (op.Got k x v) reported lacks = lacks.0 (Some x) reported.1
-lacks_value format d (op.Gone k v) reported lacks = lacks.0 None reported.1
-lacks_value format d (op.Missed k) reported lacks = lacks.1 refl reported.1
+lacks_value : (rules : Rules) (d : Data) (o : Op) → GivesOp rules d o → LacksValue rules.format d (kind_of o) → ⊥
+lacks_value rules d (op.Put k x v) reported lacks = lacks.0 (Some x) reported.1
+lacks_value rules d (op.Del k v) reported lacks = lacks.0 None reported.1
+lacks_value rules d (op.Got k x v) reported lacks = lacks.0 (Some x) reported.1
+lacks_value rules d (op.Gone k v) reported lacks = lacks.0 None reported.1
+lacks_value rules d (op.Missed k) reported lacks = lacks.1 refl reported.1
 
-lacks_version : (format : Format) (d : Data) (o : Op) → GivesOp format d o → LacksVersion format d (kind_of o) → ⊥
-lacks_version format d (op.Put k x v) reported lacks = lacks.2 v reported.2
-lacks_version format d (op.Del k v) reported lacks = lacks.2 v reported.2
-lacks_version format d (op.Got k x v) reported lacks = lacks.2 v reported.2
-lacks_version format d (op.Gone k v) reported lacks = lacks.2 v reported.2
-lacks_version format d (op.Missed k) reported lacks = something format d lacks.0 lacks.1 reported.1
+-- a version that a line has is of the right form
+has_form : (rules : Rules) → IsOrdered rules.versions → (d : Data) (v : ℕ) → GivesVersion rules.versions d v → HasNoVersion rules.versions d → ⊥
+has_form rules ordered d v (at, is, json, legal) none = none at is (go rules.versions ordered json)
+  where
+    go : (versions : Versions) → IsOrdered versions → IsVersionOf versions v at → HasForm versions at
+    go Plain ordered json = (v, json, legal)
+    go (Ranked all) ordered json = (json.0, json.1, kind_one all ordered json.0 json.2.0 json.2.1)
 
--- format 1 has no deletions
+lacks_version : (rules : Rules) → IsOrdered rules.versions → (d : Data) (o : Op) → GivesOp rules d o → LacksVersion rules d (kind_of o) → ⊥
+lacks_version rules ordered d (op.Put k x v) reported lacks = has_form rules ordered d v reported.2 lacks.2
+lacks_version rules ordered d (op.Del k v) reported lacks = has_form rules ordered d v reported.2 lacks.2
+lacks_version rules ordered d (op.Got k x v) reported lacks = has_form rules ordered d v reported.2 lacks.2
+lacks_version rules ordered d (op.Gone k v) reported lacks = has_form rules ordered d v reported.2 lacks.2
+lacks_version rules ordered d (op.Missed k) reported lacks = something rules.format d lacks.0 lacks.1 reported.1
+
+-- rules 1 has no deletions
 no_deletion : (format : Format) → Fits format None → format ≡ One → ⊥
 no_deletion format fits is = subst (λ (f : Format). Fits f None) is fits
 
-lacks_format : (format : Format) (d : Data) (o : Op) → GivesOp format d o → LacksFormat format d (kind_of o) → ⊥
-lacks_format format d (op.Put k x v) reported lacks = lacks.1
-lacks_format format d (op.Del k v) reported lacks = no_deletion format reported.3 lacks.3
-lacks_format format d (op.Got k x v) reported lacks = not_null format d x reported.1 lacks.1.0
-lacks_format format d (op.Gone k v) reported lacks = no_deletion format reported.3 lacks.3
-lacks_format format d (op.Missed k) reported lacks = something format d None lacks.1 reported.1
+lacks_format : (rules : Rules) (d : Data) (o : Op) → GivesOp rules d o → LacksFormat rules d (kind_of o) → ⊥
+lacks_format rules d (op.Put k x v) reported lacks = lacks.1
+lacks_format rules d (op.Del k v) reported lacks = no_deletion rules.format reported.3 lacks.3
+lacks_format rules d (op.Got k x v) reported lacks = not_null rules.format d x reported.1 lacks.1.0
+lacks_format rules d (op.Gone k v) reported lacks = no_deletion rules.format reported.3 lacks.3
+lacks_format rules d (op.Missed k) reported lacks = something rules.format d None lacks.1 reported.1
 
 neither : (d : Data) (kind : Kind) (x : Data) → IsAsked d kind x → get (codes "put") d ≡ None → get (codes "get") d ≡ None → get (codes "del") d ≡ None → ⊥
 neither d Put x asked p q r = let e = asked.0 in cc
@@ -227,42 +259,75 @@ several d Del x asked (inr (inl h)) = h.0 asked.0
 several d Del x asked (inr (inr h)) = h.0 asked.1
 
 -- the kind of an object's operation
-its_kind : (format : Format) (d : Data) (reported : LineOp) (kind : Kind) (key : List ℕ) → Gives format d reported → AsksKey d kind key → kind ≡ kind_of reported.op
-its_kind format d reported kind key reports asks = (key_one d kind (kind_of reported.op) key (key_in reported.op) asks (asks_of format d reported.op reports.1)).0
+its_kind : (rules : Rules) (d : Data) (reported : LineOp) (kind : Kind) (key : List ℕ) → Gives rules d reported → AsksKey d kind key → kind ≡ kind_of reported.op
+its_kind rules d reported kind key reports asks = (key_one d kind (kind_of reported.op) key (key_in reported.op) asks (asks_of rules d reported.op reports.1)).0
 
-not_wrong : (format : Format) (d : Data) (reported : LineOp) (fault : JsonLineFault) → Gives format d reported → IsWrong format d fault → ⊥
-not_wrong format d reported NoJson reports wrong = wrong
-not_wrong format d reported NoClient reports wrong = wrong reported.name reports.0
-not_wrong format d reported NoOperation reports wrong = neither d (kind_of reported.op) (text_json (key_in reported.op)) (asks_of format d reported.op reports.1).0 wrong.1 wrong.2 wrong.3
-not_wrong format d reported BothOperations reports wrong = several d (kind_of reported.op) (text_json (key_in reported.op)) (asks_of format d reported.op reports.1).0 wrong.1
-not_wrong format d reported BadKey reports wrong =
-    let asks = asks_of format d reported.op reports.1 in
+not_wrong : (rules : Rules) → IsOrdered rules.versions → (d : Data) (reported : LineOp) (fault : JsonLineFault) → Gives rules d reported → IsWrong rules d fault → ⊥
+not_wrong rules ordered d reported NoJson reports wrong = wrong
+not_wrong rules ordered d reported NoClient reports wrong = wrong reported.name reports.0
+not_wrong rules ordered d reported NoOperation reports wrong = neither d (kind_of reported.op) (text_json (key_in reported.op)) (asks_of rules d reported.op reports.1).0 wrong.1 wrong.2 wrong.3
+not_wrong rules ordered d reported BothOperations reports wrong = several d (kind_of reported.op) (text_json (key_in reported.op)) (asks_of rules d reported.op reports.1).0 wrong.1
+not_wrong rules ordered d reported BadKey reports wrong =
+    let asks = asks_of rules d reported.op reports.1 in
     let bad = wrong.1 in
     bad.3 (key_in reported.op) asks.1 (sym (asked_one d (kind_of reported.op) bad.0 (text_json (key_in reported.op)) bad.1 asks.0 bad.2).1)
-not_wrong format d reported BadValue reports wrong =
-    lacks_value format d reported.op reports.1 (subst (LacksValue format d) (its_kind format d reported wrong.1.0 wrong.1.1 reports wrong.1.2) wrong.1.3)
-not_wrong format d reported BadVersion reports wrong =
-    lacks_version format d reported.op reports.1 (subst (LacksVersion format d) (its_kind format d reported wrong.1.0 wrong.1.1 reports wrong.1.2) wrong.1.3)
-not_wrong format d reported NeedsFormat2 reports wrong =
-    lacks_format format d reported.op reports.1 (subst (LacksFormat format d) (its_kind format d reported wrong.1.0 wrong.1.1 reports wrong.1.2) wrong.1.3)
-not_wrong format d reported TooManyClients reports wrong = wrong
-not_wrong format d reported TooManyOperations reports wrong = wrong
+not_wrong rules ordered d reported BadValue reports wrong =
+    lacks_value rules d reported.op reports.1 (subst (LacksValue rules.format d) (its_kind rules d reported wrong.1.0 wrong.1.1 reports wrong.1.2) wrong.1.3)
+not_wrong rules ordered d reported BadVersion reports wrong =
+    lacks_version rules ordered d reported.op reports.1 (subst (LacksVersion rules d) (its_kind rules d reported wrong.1.0 wrong.1.1 reports wrong.1.2) wrong.1.3)
+not_wrong rules ordered d reported NeedsFormat2 reports wrong =
+    lacks_format rules d reported.op reports.1 (subst (LacksFormat rules d) (its_kind rules d reported wrong.1.0 wrong.1.1 reports wrong.1.2) wrong.1.3)
+not_wrong rules ordered d reported TooManyClients reports wrong = wrong
+not_wrong rules ordered d reported TooManyOperations reports wrong = wrong
 
-wrong_text : (format : Format) (line : List ℕ) (reported : LineOp) (fault : JsonLineFault) → TextGives format line reported → (d : Data) × IsJson line d × IsWrong format d fault → ⊥
-wrong_text format line reported fault reports wrong = not_wrong format wrong.0 reported fault (subst (λ (d : Data). Gives format d reported) (json_one line reports.0 wrong.0 reports.1 wrong.1) reports.2) wrong.2
+wrong_text : (rules : Rules) → IsOrdered rules.versions → (line : List ℕ) (reported : LineOp) (fault : JsonLineFault) → TextGives rules line reported → (d : Data) × IsJson line d × IsWrong rules d fault → ⊥
+wrong_text rules ordered line reported fault reports wrong = not_wrong rules ordered wrong.0 reported fault (subst (λ (d : Data). Gives rules d reported) (json_one line reports.0 wrong.0 reports.1 wrong.1) reports.2) wrong.2
 
-wrong_line : (format : Format) (line : List ℕ) (reported : LineOp) (fault : JsonLineFault) → TextGives format line reported → IsWrongIn format line fault → ⊥
-wrong_line format line reported NoJson reports wrong = wrong reports.0 reports.1
-wrong_line format line reported NoClient reports wrong = wrong_text format line reported NoClient reports wrong
-wrong_line format line reported NoOperation reports wrong = wrong_text format line reported NoOperation reports wrong
-wrong_line format line reported BothOperations reports wrong = wrong_text format line reported BothOperations reports wrong
-wrong_line format line reported BadKey reports wrong = wrong_text format line reported BadKey reports wrong
-wrong_line format line reported BadValue reports wrong = wrong_text format line reported BadValue reports wrong
-wrong_line format line reported BadVersion reports wrong = wrong_text format line reported BadVersion reports wrong
-wrong_line format line reported NeedsFormat2 reports wrong = wrong_text format line reported NeedsFormat2 reports wrong
-wrong_line format line reported TooManyClients reports wrong = wrong_text format line reported TooManyClients reports wrong
-wrong_line format line reported TooManyOperations reports wrong = wrong_text format line reported TooManyOperations reports wrong
+wrong_line : (rules : Rules) → IsOrdered rules.versions → (line : List ℕ) (reported : LineOp) (fault : JsonLineFault) → TextGives rules line reported → IsWrongIn rules line fault → ⊥
+wrong_line rules ordered line reported NoJson reports wrong = wrong reports.0 reports.1
+wrong_line rules ordered line reported NoClient reports wrong = wrong_text rules ordered line reported NoClient reports wrong
+wrong_line rules ordered line reported NoOperation reports wrong = wrong_text rules ordered line reported NoOperation reports wrong
+wrong_line rules ordered line reported BothOperations reports wrong = wrong_text rules ordered line reported BothOperations reports wrong
+wrong_line rules ordered line reported BadKey reports wrong = wrong_text rules ordered line reported BadKey reports wrong
+wrong_line rules ordered line reported BadValue reports wrong = wrong_text rules ordered line reported BadValue reports wrong
+wrong_line rules ordered line reported BadVersion reports wrong = wrong_text rules ordered line reported BadVersion reports wrong
+wrong_line rules ordered line reported NeedsFormat2 reports wrong = wrong_text rules ordered line reported NeedsFormat2 reports wrong
+wrong_line rules ordered line reported TooManyClients reports wrong = wrong_text rules ordered line reported TooManyClients reports wrong
+wrong_line rules ordered line reported TooManyOperations reports wrong = wrong_text rules ordered line reported TooManyOperations reports wrong
 
-pub not_faulty : (format : Format) (line : List ℕ) (reported : Option LineOp) (fault : JsonLineFault) → LineGives format line reported → IsFaulty format line fault → ⊥
-not_faulty format line None fault reports faulty = faulty.0 reports
-not_faulty format line (Some reported) fault reports faulty = wrong_line format line reported fault reports.1 faulty.1
+pub not_faulty : (rules : Rules) → IsOrdered rules.versions → (line : List ℕ) (reported : Option LineOp) (fault : JsonLineFault) → LineGives rules line reported → IsFaulty rules line fault → ⊥
+not_faulty rules ordered line None fault reports faulty = faulty.0 reports
+not_faulty rules ordered line (Some reported) fault reports faulty = wrong_line rules ordered line reported fault reports.1 faulty.1
+
+-- ---- a line with an operation does not lack a rank
+
+has_rank : (versions : Versions) → IsOrdered versions → (d : Data) (v : ℕ) → GivesVersion versions d v → IsUnranked versions d → ⊥
+has_rank Plain ordered d v gives lacks = lacks.2
+has_rank (Ranked all) ordered d v gives lacks =
+    let e = gives.1 in
+    let f = lacks.1 in
+    let first = gives.2.1 in
+    let second = lacks.2.1 in
+    let json : store_json gives.2.0 ≡ store_json lacks.2.0 = cc in
+    let place = gives.2.2 in
+    lacks.2.3 (subst (Contains all) (store_one gives.2.0 lacks.2.0 json) (place.0, slice_get_within all place.0 gives.2.0 place.1, get_or_from_slice_get all place.0 gives.2.0 gives.2.0 place.1))
+
+op_ranked : (rules : Rules) → IsOrdered rules.versions → (d : Data) (o : Op) (content : Option (List ℕ)) → GivesOp rules d o → GivesContent rules.format d (kind_of o) content → IsUnranked rules.versions d → ⊥
+op_ranked rules ordered d (op.Put k x v) content reported gives lacks = has_rank rules.versions ordered d v reported.2 lacks
+op_ranked rules ordered d (op.Del k v) content reported gives lacks = has_rank rules.versions ordered d v reported.2 lacks
+op_ranked rules ordered d (op.Got k x v) content reported gives lacks = has_rank rules.versions ordered d v reported.2 lacks
+op_ranked rules ordered d (op.Gone k v) content reported gives lacks = has_rank rules.versions ordered d v reported.2 lacks
+op_ranked rules ordered d (op.Missed k) content reported gives lacks = something rules.format d content gives reported.1
+
+ranked_text : (rules : Rules) → IsOrdered rules.versions → (d : Data) (reported : LineOp) → Gives rules d reported → LacksRank rules d → ⊥
+ranked_text rules ordered d reported reports lacks =
+    let content = lacks.1.3 in
+    op_ranked rules ordered d reported.op content.0 reports.1
+    (subst (λ (kind : Kind). GivesContent rules.format d kind content.0) (its_kind rules d reported lacks.1.0 lacks.1.1 reports lacks.1.2) content.1) content.2
+
+pub not_unranked : (rules : Rules) → IsOrdered rules.versions → (line : List ℕ) (reported : Option LineOp) → LineGives rules line reported → LineLacksRank rules line → ⊥
+not_unranked rules ordered line None reports lacks = lacks.0 reports
+not_unranked rules ordered line (Some reported) reports lacks =
+    let text = reports.1 in
+    let other = lacks.1 in
+    ranked_text rules ordered other.0 reported (subst (λ (d : Data). Gives rules d reported) (json_one line text.0 other.0 text.1 other.1) text.2) other.2

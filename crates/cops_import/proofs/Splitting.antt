@@ -3,7 +3,7 @@ use Rattle.std.proofs.Common.{◌≡◌, ◌==◌, ℕ, List, [], ◌∷◌, ◌
 use Rattle.std.specs.Prelude.{Option}
 use Rattle.std.proofs.lemmas.List.{append-nil}
 use Rattle.std.proofs.lemmas.List.Splits.{slice_split_at, slice_split_none}
-use Rattle.cops_types.specs.declared.format.Format.{Format}
+use Rattle.cops_import.specs.declared.rules.Rules.{Rules}
 use Rattle.cops_import.specs.Line.{LineGives}
 use Rattle.cops_import.specs.Lines.{IsWithin, GiveAfter, lines, with_reported}
 use Rattle.cops_import.specs.declared.line.LineOp.{LineOp}
@@ -34,6 +34,6 @@ split_last fed ended line h within =
     ∙ ap (λ (ls : List (List ℕ)). ended ++ ls) (slice_split_none (λ (b : ℕ). b == 10) line within)
 
 -- the operation of one more line comes last
-pub report_more : (format : Format) (earlier : List LineOp) (ls : List (List ℕ)) (given : List LineOp) (line : List ℕ) (reported : Option LineOp) → GiveAfter format earlier ls given → LineGives format line reported → GiveAfter format earlier (ls ++ line ∷ []) (with_reported given reported)
-report_more format earlier [] given line reported h is = (reported, is, ap (λ (ts : List LineOp). with_reported ts reported) h)
-report_more format earlier (l ∷ ls) given line reported h is = (h.0, h.1, report_more format (with_reported earlier h.0) ls given line reported h.2 is)
+pub report_more : (rules : Rules) (earlier : List LineOp) (ls : List (List ℕ)) (given : List LineOp) (line : List ℕ) (reported : Option LineOp) → GiveAfter rules earlier ls given → LineGives rules line reported → GiveAfter rules earlier (ls ++ line ∷ []) (with_reported given reported)
+report_more rules earlier [] given line reported h is = (reported, is, ap (λ (ts : List LineOp). with_reported ts reported) h)
+report_more rules earlier (l ∷ ls) given line reported h is = (h.0, h.1, report_more rules (with_reported earlier h.0) ls given line reported h.2 is)

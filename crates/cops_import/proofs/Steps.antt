@@ -4,11 +4,11 @@ use Rattle.std.specs.Prelude.{Option}
 use Rattle.std.proofs.lemmas.List.{length-append}
 use Rattle.std.proofs.lemmas.List.Elements.{All-nil, All-append}
 use Rattle.cops_types.specs.declared.counted.Counted.{Counted}
-use Rattle.cops_types.specs.declared.format.Format.{Format}
+use Rattle.cops_import.specs.declared.rules.Rules.{Rules}
 use Rattle.cops_import.specs.Faults.{IsFaultOf}
 use Rattle.cops_import.specs.Line.{LineGives}
 use Rattle.cops_import.specs.Lines.{IsWithin, LinesGive, lines, with_reported}
-use Rattle.cops_import.specs.Underway.{HasLeft, HasStopped, HasTaken, IsStopAt, IsUnderway, TakesLine, format_of}
+use Rattle.cops_import.specs.Underway.{HasLeft, HasStopped, HasTaken, IsStopAt, IsUnderway, TakesLine, rules_of}
 use Rattle.cops_import.specs.declared.fault.ImportFault.{ImportFault}
 use Rattle.cops_import.specs.declared.fault.ImportFault.TheVariants.{Endless, Memory}
 use Rattle.cops_import.specs.declared.importer.Importer.{Importer}
@@ -19,12 +19,12 @@ use Rattle.cops_import.proofs.Stops.{no_number, stops_here}
 
 module _ {W : Type 0} (contents : W → Option (List ℕ)) (from : Counted W) where
   -- a line feed came
-  pub line_ended : (fed : List ℕ) (old new : Importer W) (reported : Option LineOp) → (u : IsUnderway contents from fed old) → LineGives (format_of old) old.line.items reported → HasTaken contents from (with_reported u.given reported) new
-      → new.line.items ≡ [] → new.ended ≡ old.ended + 1 → format_of new ≡ format_of old → IsUnderway contents from (fed ++ 10 ∷ []) new
-  line_ended fed old new reported u is taken none next format = record {
+  pub line_ended : (fed : List ℕ) (old new : Importer W) (reported : Option LineOp) → (u : IsUnderway contents from fed old) → LineGives (rules_of old) old.line.items reported → HasTaken contents from (with_reported u.given reported) new
+      → new.line.items ≡ [] → new.ended ≡ old.ended + 1 → rules_of new ≡ rules_of old → IsUnderway contents from (fed ++ 10 ∷ []) new
+  line_ended fed old new reported u is taken none next rules = record {
     ended = u.ended ++ old.line.items ∷ [];
     given = with_reported u.given reported;
-    report = subst (λ (f : Format). LinesGive f (u.ended ++ old.line.items ∷ []) (with_reported u.given reported)) (sym format) (report_more (format_of old) [] u.ended u.given old.line.items reported u.report is);
+    report = subst (λ (f : Rules). LinesGive f (u.ended ++ old.line.items ∷ []) (with_reported u.given reported)) (sym rules) (report_more (rules_of old) [] u.ended u.given old.line.items reported u.report is);
     counted = omega (arith, next, u.counted, length-append u.ended (old.line.items ∷ []));
     split = subst (Splits (fed ++ 10 ∷ []) (u.ended ++ old.line.items ∷ [])) (sym none) (split_ended fed u.ended old.line.items u.split u.within);
     within = subst IsWithin (sym none) (All-nil (λ (b : ℕ). (b == 10) ≡ false));
@@ -32,12 +32,12 @@ module _ {W : Type 0} (contents : W → Option (List ℕ)) (from : Counted W) wh
   }
 
   -- a part of a line came
-  pub part_taken : (fed part : List ℕ) (old new : Importer W) → (u : IsUnderway contents from fed old) → new.line.items ≡ old.line.items ++ part → IsWithin part → new.ended ≡ old.ended → format_of new ≡ format_of old
+  pub part_taken : (fed part : List ℕ) (old new : Importer W) → (u : IsUnderway contents from fed old) → new.line.items ≡ old.line.items ++ part → IsWithin part → new.ended ≡ old.ended → rules_of new ≡ rules_of old
       → HasTaken contents from u.given new → IsUnderway contents from (fed ++ part) new
-  part_taken fed part old new u items within same format taken = record {
+  part_taken fed part old new u items within same rules taken = record {
     ended = u.ended;
     given = u.given;
-    report = subst (λ (f : Format). LinesGive f u.ended u.given) (sym format) u.report;
+    report = subst (λ (f : Rules). LinesGive f u.ended u.given) (sym rules) u.report;
     counted = same ∙ u.counted;
     split = subst (Splits (fed ++ part) u.ended) (sym items) (split_part fed u.ended old.line.items part u.split);
     within = subst IsWithin (sym items) (All-append (λ (b : ℕ). (b == 10) ≡ false) old.line.items part u.within within);
@@ -46,21 +46,21 @@ module _ {W : Type 0} (contents : W → Option (List ℕ)) (from : Counted W) wh
 
   -- the import stops at a line that a line feed ends
   pub stopped_here : (fed : List ℕ) (old : Importer W) (number : ℕ) (e : ImportFault) (w : Counted W) → (u : IsUnderway contents from fed old) → number ≡ old.ended + 1
-      → IsStopAt (format_of old) old.clients number u.given old.line.items e → HasLeft contents from e w → HasStopped contents from (fed ++ 10 ∷ []) e (format_of old) old.clients w
+      → IsStopAt (rules_of old) old.clients number u.given old.line.items e → HasLeft contents from e w → HasStopped contents from (fed ++ 10 ∷ []) e (rules_of old) old.clients w
   stopped_here fed old number e w u next stop left = record {
-    says = stops_here (format_of old) old.clients fed u.ended old.line.items u.given number e u.split u.within u.report (next ∙ ap (λ (n : ℕ). n + 1) u.counted) stop;
+    says = stops_here (rules_of old) old.clients fed u.ended old.line.items u.given number e u.split u.within u.report (next ∙ ap (λ (n : ℕ). n + 1) u.counted) stop;
     left = left;
   }
 
   -- memory ran out
-  pub stopped_short : (fed all : List ℕ) (old : Importer W) → IsUnderway contents from fed old → HasStopped contents from all Memory (format_of old) old.clients old.writer.writer
+  pub stopped_short : (fed all : List ℕ) (old : Importer W) → IsUnderway contents from fed old → HasStopped contents from all Memory (rules_of old) old.clients old.writer.writer
   stopped_short fed all old u = record {
     says = λ more. tt;
     left = record { cut = cut_so_far contents from _ old.writer u.taken.wrote; heard = tt };
   }
 
   -- no 64-bit number is left for a line
-  pub stopped_endless : (fed all : List ℕ) (old : Importer W) → IsUnderway contents from fed old → 18446744073709551615 ≤ old.ended → all ≡ fed ++ 10 ∷ [] → HasStopped contents from all Endless (format_of old) old.clients old.writer.writer
+  pub stopped_endless : (fed all : List ℕ) (old : Importer W) → IsUnderway contents from fed old → 18446744073709551615 ≤ old.ended → all ≡ fed ++ 10 ∷ [] → HasStopped contents from all Endless (rules_of old) old.clients old.writer.writer
   stopped_endless fed all old u many is = record {
     says = λ more. no_number (all ++ more) u.ended (lines (old.line.items ++ 10 ∷ more)) (ap (λ (l : List ℕ). lines (l ++ more)) is ∙ ap lines (append_assoc fed (10 ∷ []) more) ∙ u.split (10 ∷ more)) (omega (arith, many, u.counted));
     left = record { cut = cut_so_far contents from _ old.writer u.taken.wrote; heard = u.taken.wrote.heard };
@@ -71,23 +71,23 @@ module _ {W : Type 0} (contents : W → Option (List ℕ)) (from : Counted W) wh
       no_number fed u.ended (old.line.items ∷ []) (split_last fed u.ended old.line.items u.split u.within) (omega (arith, many, u.counted))
 
   -- a fault that stopped the import still stops it with more bytes
-  pub stopped_more : (fed rest all : List ℕ) (e : ImportFault) (format : Format) (clients : ℕ) (w : Counted W) → fed ++ rest ≡ all → HasStopped contents from fed e format clients w → HasStopped contents from all e format clients w
-  stopped_more fed rest all e format clients w is h = record {
-    says = λ more. subst (λ (bytes : List ℕ). IsFaultOf format clients bytes e) (sym (append_assoc fed rest more) ∙ ap (λ (l : List ℕ). l ++ more) is) (h.says (rest ++ more));
+  pub stopped_more : (fed rest all : List ℕ) (e : ImportFault) (rules : Rules) (clients : ℕ) (w : Counted W) → fed ++ rest ≡ all → HasStopped contents from fed e rules clients w → HasStopped contents from all e rules clients w
+  stopped_more fed rest all e rules clients w is h = record {
+    says = λ more. subst (λ (bytes : List ℕ). IsFaultOf rules clients bytes e) (sym (append_assoc fed rest more) ∙ ap (λ (l : List ℕ). l ++ more) is) (h.says (rest ++ more));
     left = h.left;
   }
 
-  -- the format and the number of clients are those of the import
-  pub stopped_as : (fed : List ℕ) (e : ImportFault) (f f' : Format) (k k' : ℕ) (w : Counted W) → f ≡ f' → k ≡ k' → HasStopped contents from fed e f k w → HasStopped contents from fed e f' k' w
-  stopped_as fed e f f' k k' w format clients h =
-      subst (λ (x : Format). HasStopped contents from fed e x k' w) format (subst (λ (x : ℕ). HasStopped contents from fed e f x w) clients h)
+  -- the rules and the number of clients are those of the import
+  pub stopped_as : (fed : List ℕ) (e : ImportFault) (f f' : Rules) (k k' : ℕ) (w : Counted W) → f ≡ f' → k ≡ k' → HasStopped contents from fed e f k w → HasStopped contents from fed e f' k' w
+  stopped_as fed e f f' k k' w rules clients h =
+      subst (λ (x : Rules). HasStopped contents from fed e x k' w) rules (subst (λ (x : ℕ). HasStopped contents from fed e f x w) clients h)
 
   -- all lines were taken
-  pub last_taken : (fed : List ℕ) (old mid : Importer W) → (u : IsUnderway contents from fed old) → TakesLine contents from (format_of old) u.given old.line.items mid
-      → (given : List LineOp) × LinesGive (format_of old) (lines fed) given × HasTaken contents from given mid
+  pub last_taken : (fed : List ℕ) (old mid : Importer W) → (u : IsUnderway contents from fed old) → TakesLine contents from (rules_of old) u.given old.line.items mid
+      → (given : List LineOp) × LinesGive (rules_of old) (lines fed) given × HasTaken contents from given mid
   last_taken fed old mid u took =
       let given = with_reported u.given took.0 in
-      (given, subst (λ (ls : List (List ℕ)). LinesGive (format_of old) ls given) (sym (split_last fed u.ended old.line.items u.split u.within)) (report_more (format_of old) [] u.ended u.given old.line.items took.0 u.report took.1), took.2)
+      (given, subst (λ (ls : List (List ℕ)). LinesGive (rules_of old) ls given) (sym (split_last fed u.ended old.line.items u.split u.within)) (report_more (rules_of old) [] u.ended u.given old.line.items took.0 u.report took.1), took.2)
 
   -- nothing came yet
   pub underway_none : (i : Importer W) → HasTaken contents from [] i → i.line.items ≡ [] → i.ended ≡ 0 → IsUnderway contents from [] i

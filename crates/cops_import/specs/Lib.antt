@@ -1,3 +1,4 @@
+pub mod Stores
 pub mod Line
 pub mod Asked
 pub mod Names

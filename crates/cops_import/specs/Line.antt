@@ -1,6 +1,6 @@
 -- The operation of a line.
-use Rattle.std.specs.Prelude.{◌≡◌, ◌≢◌, ◌⊎◌, ◌==◌, ◌||◌, ℕ, Bool, List, codes, decimal, Option, None, Some, IsUtf8}
-use Rattle.std.specs.List.{AllPass, list_all}
+use Rattle.std.specs.Prelude.{◌≡◌, ◌≢◌, ◌⊎◌, ◌==◌, ◌||◌, ℕ, Bool, true, false, List, codes, decimal, Option, None, Some, IsUtf8}
+use Rattle.std.specs.List.{AllPass, Contains, list_all}
 use Rattle.serde_json.specs.Data.{Data, null, array, item, no_items}
 use Rattle.serde_json.specs.Read.{read}
 use Rattle.serde_json.specs.Find.{get}
@@ -18,6 +18,10 @@ use Rattle.cops_import.specs.declared.fault.JsonLineFault.TheVariants.{NoJson, N
 use Rattle.cops_import.specs.declared.line.Kind.{Kind}
 use Rattle.cops_import.specs.declared.line.Kind.TheVariants.{Put, Get, Del}
 use Rattle.cops_import.specs.declared.line.LineOp.{LineOp}
+use Rattle.cops_import.specs.declared.rules.Rules.{Rules}
+use Rattle.cops_import.specs.declared.rules.Versions.{Versions}
+use Rattle.cops_import.specs.declared.rules.Versions.TheVariants.{Plain, Ranked}
+use Rattle.cops_import.specs.Stores.{AStoreVersion, store_json, IsIncreasing, IsOfKind, IsRankOf}
 
 -- ---- a line's bytes
 
@@ -67,8 +71,24 @@ abbrev pub IsVersionJson : ℕ → Data → Type 0
 IsVersionJson v d =
     (d ≡ text_json (version_text v)) ⊎ ((d ≡ number_json (clock_of v)) × (node_of v ≡ 0)) ⊎ (d ≡ pair_json (clock_of v) (node_of v))
 
-abbrev pub GivesVersion : Data → ℕ → Type 0
-GivesVersion d v = (at : Data) × (get (codes "version") d ≡ Some at) × IsVersionJson v at × IsVersion v
+-- the version of a trace for the JSON of a version, as versions are read
+abbrev pub IsVersionOf : Versions → ℕ → Data → Type 0
+IsVersionOf Plain v d = IsVersionJson v d
+IsVersionOf (Ranked all) v d = (of : AStoreVersion) × (d ≡ store_json of) × IsRankOf all of v
+
+abbrev pub GivesVersion : Versions → Data → ℕ → Type 0
+GivesVersion versions d v = (at : Data) × (get (codes "version") d ≡ Some at) × IsVersionOf versions v at × IsVersion v
+
+-- the versions of the store are in order, as those of each `Ranks` are
+abbrev pub IsOrdered : Versions → Type 0
+IsOrdered Plain = Unit {0}
+IsOrdered (Ranked all) = IsIncreasing all
+
+-- versions are read by their ranks if that is asked for, and otherwise as they stand
+abbrev pub AreRead : Bool → Versions → Type 0
+AreRead false Plain = Unit {0}
+AreRead true (Ranked all) = IsIncreasing all
+AreRead _ _ = ⊥
 
 -- no member, or null
 abbrev pub IsNothing : Option Data → Type 0
@@ -92,25 +112,27 @@ GivesContent format d _ _ = ⊥
 
 -- ---- the operation
 
-abbrev pub GivesOp : Format → Data → Op → Type 0
-GivesOp format d (op.Put key value version) = AsksKey d Put key × GivesContent format d Put (Some value) × GivesVersion d version
-GivesOp format d (op.Del key version) = AsksKey d Del key × GivesContent format d Del None × GivesVersion d version × Fits format None
-GivesOp format d (op.Got key value version) = AsksKey d Get key × GivesContent format d Get (Some value) × GivesVersion d version
-GivesOp format d (op.Gone key version) = AsksKey d Get key × GivesContent format d Get None × GivesVersion d version × Fits format None
-GivesOp format d (op.Missed key) = AsksKey d Get key × FoundNothing d
+abbrev pub GivesOp : Rules → Data → Op → Type 0
+GivesOp rules d (op.Put key value version) = AsksKey d Put key × GivesContent rules.format d Put (Some value) × GivesVersion rules.versions d version
+GivesOp rules d (op.Del key version) =
+    AsksKey d Del key × GivesContent rules.format d Del None × GivesVersion rules.versions d version × Fits rules.format None
+GivesOp rules d (op.Got key value version) = AsksKey d Get key × GivesContent rules.format d Get (Some value) × GivesVersion rules.versions d version
+GivesOp rules d (op.Gone key version) =
+    AsksKey d Get key × GivesContent rules.format d Get None × GivesVersion rules.versions d version × Fits rules.format None
+GivesOp rules d (op.Missed key) = AsksKey d Get key × FoundNothing d
 
 -- the object has this client's name and this operation
-abbrev pub Gives : Format → Data → LineOp → Type 0
-Gives format d reported = GivesName d reported.name × GivesOp format d reported.op
+abbrev pub Gives : Rules → Data → LineOp → Type 0
+Gives rules d reported = GivesName d reported.name × GivesOp rules d reported.op
 
 -- the line is the JSON text of such an object
-abbrev pub TextGives : Format → List ℕ → LineOp → Type 0
-TextGives format line reported = (d : Data) × IsJson line d × Gives format d reported
+abbrev pub TextGives : Rules → List ℕ → LineOp → Type 0
+TextGives rules line reported = (d : Data) × IsJson line d × Gives rules d reported
 
 -- a blank line has no operation, and any other line has that of its object
-abbrev pub LineGives : Format → List ℕ → Option LineOp → Type 0
-LineGives format line None = IsBlank line
-LineGives format line (Some reported) = (IsBlank line → ⊥) × TextGives format line reported
+abbrev pub LineGives : Rules → List ℕ → Option LineOp → Type 0
+LineGives rules line None = IsBlank line
+LineGives rules line (Some reported) = (IsBlank line → ⊥) × TextGives rules line reported
 
 -- ---- what is wrong with a line
 
@@ -130,32 +152,59 @@ HasNoContent format d kind = (content : Option (List ℕ)) → GivesContent form
 abbrev pub LacksValue : Format → Data → Kind → Type 0
 LacksValue format d kind = HasNoContent format d kind × (kind ≡ Get → FoundNothing d → ⊥)
 
-abbrev pub HasNoVersion : Data → Type 0
-HasNoVersion d = (v : ℕ) → GivesVersion d v → ⊥
+-- the JSON of a version has the right form: that of a version, or of a version of the store's kind
+abbrev pub HasForm : Versions → Data → Type 0
+HasForm Plain d = (v : ℕ) × IsVersionJson v d × IsVersion v
+HasForm (Ranked all) d = (of : AStoreVersion) × (d ≡ store_json of) × IsOfKind all of
+
+abbrev pub HasNoVersion : Versions → Data → Type 0
+HasNoVersion versions d = (at : Data) → get (codes "version") d ≡ Some at → HasForm versions at → ⊥
 
 -- the version is missing, which any content needs
-abbrev pub LacksVersion : Format → Data → Kind → Type 0
-LacksVersion format d kind = (content : Option (List ℕ)) × GivesContent format d kind content × HasNoVersion d
+abbrev pub LacksVersion : Rules → Data → Kind → Type 0
+LacksVersion rules d kind = (content : Option (List ℕ)) × GivesContent rules.format d kind content × HasNoVersion rules.versions d
 
 -- the operation is a deletion or a get that found one, which format 1 does not have
-abbrev pub LacksFormat : Format → Data → Kind → Type 0
-LacksFormat format d kind = (version : ℕ) × GivesContent format d kind None × GivesVersion d version × (format ≡ One)
+abbrev pub LacksFormat : Rules → Data → Kind → Type 0
+LacksFormat rules d kind = (version : ℕ) × GivesContent rules.format d kind None × GivesVersion rules.versions d version × (rules.format ≡ One)
 
 -- what is wrong with an object whose members checked before are right
-abbrev pub IsWrong : Format → Data → JsonLineFault → Type 0
-IsWrong format d NoClient = (name : List ℕ) → GivesName d name → ⊥
-IsWrong format d NoOperation = HasName d × (get (codes "put") d ≡ None) × (get (codes "get") d ≡ None) × (get (codes "del") d ≡ None)
-IsWrong format d BothOperations = HasName d × HasSeveral d
-IsWrong format d BadKey = HasName d × ((kind : Kind) × (at : Data) × IsAsked d kind at × ((key : List ℕ) → IsKey key → at ≢ text_json key))
-IsWrong format d BadValue = HasName d × ((kind : Kind) × (key : List ℕ) × AsksKey d kind key × LacksValue format d kind)
-IsWrong format d BadVersion = HasName d × ((kind : Kind) × (key : List ℕ) × AsksKey d kind key × LacksVersion format d kind)
-IsWrong format d NeedsFormat2 = HasName d × ((kind : Kind) × (key : List ℕ) × AsksKey d kind key × LacksFormat format d kind)
-IsWrong format d _ = ⊥
+abbrev pub IsWrong : Rules → Data → JsonLineFault → Type 0
+IsWrong rules d NoClient = (name : List ℕ) → GivesName d name → ⊥
+IsWrong rules d NoOperation = HasName d × (get (codes "put") d ≡ None) × (get (codes "get") d ≡ None) × (get (codes "del") d ≡ None)
+IsWrong rules d BothOperations = HasName d × HasSeveral d
+IsWrong rules d BadKey = HasName d × ((kind : Kind) × (at : Data) × IsAsked d kind at × ((key : List ℕ) → IsKey key → at ≢ text_json key))
+IsWrong rules d BadValue = HasName d × ((kind : Kind) × (key : List ℕ) × AsksKey d kind key × LacksValue rules.format d kind)
+IsWrong rules d BadVersion = HasName d × ((kind : Kind) × (key : List ℕ) × AsksKey d kind key × LacksVersion rules d kind)
+IsWrong rules d NeedsFormat2 = HasName d × ((kind : Kind) × (key : List ℕ) × AsksKey d kind key × LacksFormat rules d kind)
+IsWrong rules d _ = ⊥
 
 -- what is wrong with a line that is not blank
-abbrev pub IsWrongIn : Format → List ℕ → JsonLineFault → Type 0
-IsWrongIn format line NoJson = (d : Data) → IsJson line d → ⊥
-IsWrongIn format line fault = (d : Data) × IsJson line d × IsWrong format d fault
+abbrev pub IsWrongIn : Rules → List ℕ → JsonLineFault → Type 0
+IsWrongIn rules line NoJson = (d : Data) → IsJson line d → ⊥
+IsWrongIn rules line fault = (d : Data) × IsJson line d × IsWrong rules d fault
 
-abbrev pub IsFaulty : Format → List ℕ → JsonLineFault → Type 0
-IsFaulty format line fault = (IsBlank line → ⊥) × IsWrongIn format line fault
+abbrev pub IsFaulty : Rules → List ℕ → JsonLineFault → Type 0
+IsFaulty rules line fault = (IsBlank line → ⊥) × IsWrongIn rules line fault
+
+-- ---- a version that has no rank
+
+-- the JSON of a version of the store's kind that is not among those with ranks
+abbrev pub IsUnrankedJson : Versions → Data → Type 0
+IsUnrankedJson Plain d = ⊥
+IsUnrankedJson (Ranked all) d = (of : AStoreVersion) × (d ≡ store_json of) × IsOfKind all of × (Contains all of → ⊥)
+
+abbrev pub IsUnranked : Versions → Data → Type 0
+IsUnranked versions d = (at : Data) × (get (codes "version") d ≡ Some at) × IsUnrankedJson versions at
+
+-- the object's operation has such a version, and the members checked before are right
+abbrev pub LacksRank : Rules → Data → Type 0
+LacksRank rules d =
+    HasName d × ((kind : Kind) × (key : List ℕ) × AsksKey d kind key
+    × ((content : Option (List ℕ)) × GivesContent rules.format d kind content × IsUnranked rules.versions d))
+
+abbrev pub TextLacksRank : Rules → List ℕ → Type 0
+TextLacksRank rules line = (d : Data) × IsJson line d × LacksRank rules d
+
+abbrev pub LineLacksRank : Rules → List ℕ → Type 0
+LineLacksRank rules line = (IsBlank line → ⊥) × TextLacksRank rules line

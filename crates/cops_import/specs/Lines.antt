@@ -4,6 +4,7 @@ use Rattle.std.specs.List.{All, slice_split}
 use Rattle.cops_types.specs.Operations.{operation_of}
 use Rattle.cops_types.specs.declared.format.Format.{Format}
 use Rattle.cops_trace.specs.Text.{ARecord, ATrace}
+use Rattle.cops_import.specs.declared.rules.Rules.{Rules}
 use Rattle.cops_import.specs.Line.{LineGives}
 use Rattle.cops_import.specs.Names.{number_of, with_name}
 use Rattle.cops_import.specs.declared.line.LineOp.{LineOp}
@@ -22,14 +23,14 @@ with_reported given None = given
 with_reported given (Some reported) = given ++ reported ∷ []
 
 -- `given` are the operations `earlier` and then those of the lines, at most one for each line
-abbrev pub GiveAfter : Format → List LineOp → List (List ℕ) → List LineOp → Type 0
-GiveAfter format earlier [] given = given ≡ earlier
-GiveAfter format earlier (line ∷ lines) given =
-    (reported : Option LineOp) × LineGives format line reported × GiveAfter format (with_reported earlier reported) lines given
+abbrev pub GiveAfter : Rules → List LineOp → List (List ℕ) → List LineOp → Type 0
+GiveAfter rules earlier [] given = given ≡ earlier
+GiveAfter rules earlier (line ∷ lines) given =
+    (reported : Option LineOp) × LineGives rules line reported × GiveAfter rules (with_reported earlier reported) lines given
 
 -- `given` are the operations of the lines, in their order
-abbrev pub LinesGive : Format → List (List ℕ) → List LineOp → Type 0
-LinesGive format lines given = GiveAfter format [] lines given
+abbrev pub LinesGive : Rules → List (List ℕ) → List LineOp → Type 0
+LinesGive rules lines given = GiveAfter rules [] lines given
 
 -- the names of the clients in the order in which they first appear
 abbrev pub names_of : List LineOp → List (List ℕ)

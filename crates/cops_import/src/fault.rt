@@ -28,7 +28,7 @@ pub enum JsonLineFault {
     /// missing one of a deletion.
     #[error("bad value")]
     BadValue,
-    /// 6: the version is not a version.
+    /// 6: the version is not of its form.
     #[error("bad version")]
     BadVersion,
     /// 7: the operation is a deletion or a get that found one, and the format is 1.
@@ -88,8 +88,9 @@ pub enum ImportFault {
     /// 3: this line, counted from 1, is the first that is wrong.
     #[error("line {number}: {fault}")]
     Line { number: u64, fault: JsonLineFault },
-    /// 4: the lines name more or fewer clients than the caller said.
-    #[error("another number of clients")]
+    /// 4: the lines are not those that were surveyed: they name more or fewer clients than the caller said, or a version
+    /// has no rank.
+    #[error("other clients or versions than were surveyed")]
     Changed,
     /// 5: the lines did not end within 2^40 reads, or there are 2^64.
     #[error("the lines do not end")]

@@ -6,25 +6,28 @@ ghost use Rattle.cops_types.specs.Operations.{operation_of};
 ghost use Rattle.cops_trace.specs.Text.{IsOp};
 ghost use Rattle.cops_import.specs.declared.line.LineOp.{LineOp as AGivenOp};
 ghost use Rattle.cops_import.specs.Faults.{IsFaultOf};
-ghost use Rattle.cops_import.specs.Underway.{Finishes, HasEnded, HasLeft, HasStopped, HasTaken, IsStopAt, IsStopAtEnd, IsStopOf, IsUnderway, TakesLine, format_of};
+ghost use Rattle.cops_import.specs.Underway.{Finishes, HasEnded, HasLeft, HasStopped, HasTaken, IsStopAt, IsStopAtEnd, IsStopOf, IsUnderway, TakesLine, format_of, rules_of};
 
 use crate::fault::{ImportFault, JsonLineFault};
 use crate::imported::{Imported, Unimported};
-use crate::line::{LineOp, NotGiven, of_line};
+use crate::line::{LineOp, of_line};
 use crate::name::Name;
 use crate::names::Names;
+use crate::not_given::NotGiven;
+use crate::rules::{Rules, Versions};
 use cops_trace::TraceWriter;
-use cops_types::{Counted, Format, MAX_CLIENTS, Op};
+use cops_types::{Counted, MAX_CLIENTS, Op};
 use memchr::memchr;
 use std::alloc::Global;
 use std::io::Write;
 
-/// The state of an import: the names so far, the writer of the trace, the part of the last line that came, and the
+/// The state of an import: how versions are read, the names so far, the writer of the trace, the part of the last line that came, and the
 /// number of lines that ended.
 #[derive(Drop)]
 pub(crate) struct Importer<W: Write> {
     alloc: Global,
     clients: u16,
+    versions: Versions,
     names: Names,
     operations: usize,
     writer: TraceWriter<W>,
@@ -43,25 +46,27 @@ pub fn cut_line(bytes: &[u8]) -> Option<(&[u8], &[u8])>
 }
 
 impl<W: Write> Importer<W> {
-    /// Begins an import, and writes the head of a trace of this format with this number of clients. Returns the writer
-    /// if the head is not written.
+    /// Begins an import, and writes the head of a trace of the rules' format with this number of clients. Returns the
+    /// writer if the head is not written.
     pub(crate) fn new(
         alloc: Global,
         trace: Counted<W>,
-        format: Format,
+        rules: Rules,
         clients: u16,
     ) -> Result<Self, Unimported<W>>
         ensures ok { IfOk result (λ i. IsUnderway W.contents trace [] i) }
         ensures err { IfErr result (λ u. HasLeft W.contents trace u.fault u.writer) }
-        ensures fault { IfErr result (λ u. (bytes : List ℕ) → IsFaultOf format clients bytes u.fault) }
+        ensures fault { IfErr result (λ u. (bytes : List ℕ) → IsFaultOf rules clients bytes u.fault) }
         ensures device { IfErr result (λ u. u.fault ≢ ImportFault.ReadFailed) }
         ensures clients { IfOk result (λ i. i.clients ≡ clients) }
-        ensures format { IfOk result (λ i. format_of i ≡ format) }
+        ensures rules { IfOk result (λ i. rules_of i ≡ rules) }
     {
+        let Rules { format, versions } = rules;
         match TraceWriter::new(format, alloc, trace, clients) {
             Ok(writer) => Ok(Importer {
                 alloc,
                 clients,
+                versions,
                 names: Names::new(alloc),
                 operations: 0,
                 writer,
@@ -80,7 +85,7 @@ impl<W: Write> Importer<W> {
         ensures stop { IfErr result (λ e. (from : ACounted W) (given : List AGivenOp) → HasTaken W.contents from given self.old → IsStopOf self.old.clients number given (record { name = name; op = op.now }) e) }
         ensures device { IfErr result (λ e. e ≢ ImportFault.ReadFailed) }
         ensures clients { self.new.clients ≡ self.old.clients }
-        ensures format { OnOk result (format_of self.new ≡ format_of self.old) }
+        ensures rules { OnOk result (rules_of self.new ≡ rules_of self.old) }
         ensures line { self.new.line ≡ self.old.line }
     {
         let Ok(client) = self.names.number(name) else {
@@ -113,20 +118,21 @@ impl<W: Write> Importer<W> {
 
     /// Takes the line that has come, which has this number.
     fn take_line(&mut self, number: u64) -> Result<(), ImportFault>
-        ensures ok { OnOk result ((from : ACounted W) (given : List AGivenOp) → HasTaken W.contents from given self.old → TakesLine W.contents from (format_of self.old) given self.old.line.items self.new) }
+        ensures ok { OnOk result ((from : ACounted W) (given : List AGivenOp) → HasTaken W.contents from given self.old → TakesLine W.contents from (rules_of self.old) given self.old.line.items self.new) }
         ensures err { IfErr result (λ e. (from : ACounted W) (given : List AGivenOp) → HasTaken W.contents from given self.old → HasLeft W.contents from e self.new.writer.writer) }
-        ensures stop { IfErr result (λ e. (from : ACounted W) (given : List AGivenOp) → HasTaken W.contents from given self.old → IsStopAt (format_of self.old) self.old.clients number given self.old.line.items e) }
+        ensures stop { IfErr result (λ e. (from : ACounted W) (given : List AGivenOp) → HasTaken W.contents from given self.old → IsStopAt (rules_of self.old) self.old.clients number given self.old.line.items e) }
         ensures device { IfErr result (λ e. e ≢ ImportFault.ReadFailed) }
         ensures clients { self.new.clients ≡ self.old.clients }
-        ensures format { OnOk result (format_of self.new ≡ format_of self.old) }
+        ensures rules { OnOk result (rules_of self.new ≡ rules_of self.old) }
     {
-        match of_line(self.alloc, self.writer.format(), &self.line) {
+        match of_line(self.alloc, self.writer.format(), &self.versions, &self.line) {
             Ok(None) => Ok(()),
             Ok(Some(reported)) => {
                 let LineOp { name, op } = reported;
                 self.take(name, &op, number)
             }
             Err(NotGiven::Memory) => Err(ImportFault::Memory),
+            Err(NotGiven::Unranked) => Err(ImportFault::Changed),
             Err(NotGiven::Fault(fault)) => Err(ImportFault::Line { number, fault }),
         }
     }
@@ -134,10 +140,10 @@ impl<W: Write> Importer<W> {
     /// Takes the line that a line feed ends.
     fn end_line(&mut self) -> Result<(), ImportFault>
         ensures ok { OnOk result ((from : ACounted W) (fed : List ℕ) → IsUnderway W.contents from fed self.old → IsUnderway W.contents from (fed ++ 10 ∷ []) self.new) }
-        ensures err { IfErr result (λ e. (from : ACounted W) (fed : List ℕ) → IsUnderway W.contents from fed self.old → HasStopped W.contents from (fed ++ 10 ∷ []) e (format_of self.old) self.old.clients self.new.writer.writer) }
+        ensures err { IfErr result (λ e. (from : ACounted W) (fed : List ℕ) → IsUnderway W.contents from fed self.old → HasStopped W.contents from (fed ++ 10 ∷ []) e (rules_of self.old) self.old.clients self.new.writer.writer) }
         ensures device { IfErr result (λ e. e ≢ ImportFault.ReadFailed) }
         ensures clients { self.new.clients ≡ self.old.clients }
-        ensures format { OnOk result (format_of self.new ≡ format_of self.old) }
+        ensures rules { OnOk result (rules_of self.new ≡ rules_of self.old) }
     {
         let Some(number) = self.ended.checked_add(1) else {
             return Err(ImportFault::Endless);
@@ -156,10 +162,10 @@ impl<W: Write> Importer<W> {
     fn take_part(&mut self, part: &[u8]) -> Result<(), ImportFault>
         requires { IsWithin part.now }
         ensures ok { OnOk result ((from : ACounted W) (fed : List ℕ) → IsUnderway W.contents from fed self.old → IsUnderway W.contents from (fed ++ part.now) self.new) }
-        ensures err { IfErr result (λ e. (from : ACounted W) (fed : List ℕ) → IsUnderway W.contents from fed self.old → HasStopped W.contents from (fed ++ part.now) e (format_of self.old) self.old.clients self.new.writer.writer) }
+        ensures err { IfErr result (λ e. (from : ACounted W) (fed : List ℕ) → IsUnderway W.contents from fed self.old → HasStopped W.contents from (fed ++ part.now) e (rules_of self.old) self.old.clients self.new.writer.writer) }
         ensures device { IfErr result (λ e. e ≢ ImportFault.ReadFailed) }
         ensures clients { self.new.clients ≡ self.old.clients }
-        ensures format { OnOk result (format_of self.new ≡ format_of self.old) }
+        ensures rules { OnOk result (rules_of self.new ≡ rules_of self.old) }
     {
         match self.line.extend_from_slice(part) {
             Ok(()) => Ok(()),
@@ -171,10 +177,10 @@ impl<W: Write> Importer<W> {
     fn take_end(&mut self, part: &[u8]) -> Result<(), ImportFault>
         requires { IsWithin part.now }
         ensures ok { OnOk result ((from : ACounted W) (fed : List ℕ) → IsUnderway W.contents from fed self.old → IsUnderway W.contents from (fed ++ part.now ++ 10 ∷ []) self.new) }
-        ensures err { IfErr result (λ e. (from : ACounted W) (fed : List ℕ) → IsUnderway W.contents from fed self.old → HasStopped W.contents from (fed ++ part.now ++ 10 ∷ []) e (format_of self.old) self.old.clients self.new.writer.writer) }
+        ensures err { IfErr result (λ e. (from : ACounted W) (fed : List ℕ) → IsUnderway W.contents from fed self.old → HasStopped W.contents from (fed ++ part.now ++ 10 ∷ []) e (rules_of self.old) self.old.clients self.new.writer.writer) }
         ensures device { IfErr result (λ e. e ≢ ImportFault.ReadFailed) }
         ensures clients { self.new.clients ≡ self.old.clients }
-        ensures format { OnOk result (format_of self.new ≡ format_of self.old) }
+        ensures rules { OnOk result (rules_of self.new ≡ rules_of self.old) }
     {
         match self.take_part(part) {
             Ok(()) => {}
@@ -189,10 +195,10 @@ impl<W: Write> Importer<W> {
     /// Takes the next bytes.
     pub(crate) fn take_piece(&mut self, piece: &[u8]) -> Result<(), ImportFault>
         ensures ok { OnOk result ((from : ACounted W) (fed : List ℕ) → IsUnderway W.contents from fed self.old → IsUnderway W.contents from (fed ++ piece.now) self.new) }
-        ensures err { IfErr result (λ e. (from : ACounted W) (fed : List ℕ) → IsUnderway W.contents from fed self.old → HasStopped W.contents from (fed ++ piece.now) e (format_of self.old) self.old.clients self.new.writer.writer) }
+        ensures err { IfErr result (λ e. (from : ACounted W) (fed : List ℕ) → IsUnderway W.contents from fed self.old → HasStopped W.contents from (fed ++ piece.now) e (rules_of self.old) self.old.clients self.new.writer.writer) }
         ensures device { IfErr result (λ e. e ≢ ImportFault.ReadFailed) }
         ensures clients { self.new.clients ≡ self.old.clients }
-        ensures format { OnOk result (format_of self.new ≡ format_of self.old) }
+        ensures rules { OnOk result (rules_of self.new ≡ rules_of self.old) }
     {
         let mut rest = piece;
         while let Some((part, behind)) = cut_line(rest) {
@@ -210,9 +216,9 @@ impl<W: Write> Importer<W> {
 
     /// Takes the last line, and writes the end record.
     pub(crate) fn finish(mut self) -> Result<Imported<W>, Unimported<W>>
-        ensures ok { IfOk result (λ done. (from : ACounted W) (fed : List ℕ) → IsUnderway W.contents from fed self → Finishes W.contents from (format_of self) fed done) }
+        ensures ok { IfOk result (λ done. (from : ACounted W) (fed : List ℕ) → IsUnderway W.contents from fed self → Finishes W.contents from (rules_of self) fed done) }
         ensures err { IfErr result (λ u. (from : ACounted W) (fed : List ℕ) → IsUnderway W.contents from fed self → HasLeft W.contents from u.fault u.writer) }
-        ensures fault { IfErr result (λ u. (from : ACounted W) (fed : List ℕ) → IsUnderway W.contents from fed self → IsFaultOf (format_of self) self.clients fed u.fault) }
+        ensures fault { IfErr result (λ u. (from : ACounted W) (fed : List ℕ) → IsUnderway W.contents from fed self → IsFaultOf (rules_of self) self.clients fed u.fault) }
         ensures device { IfErr result (λ u. u.fault ≢ ImportFault.ReadFailed) }
         ensures clients { IfOk result (λ done. length done.names ≡ self.clients) }
     {

@@ -1,14 +1,25 @@
-//! A theorem about the definitions alone, stated as the contract of a function with an empty body.
+//! Theorems about the definitions, stated as the contracts of functions that do nothing.
 ghost use Rattle.std.specs.Prelude.{◌≡◌, List, ℕ, Option};
-ghost use Rattle.cops_types.specs.declared.format.Format.{Format as AFormat};
-ghost use Rattle.cops_import.specs.Line.{IsFaulty, LineGives};
+ghost use Rattle.cops_import.specs.Line.{IsFaulty, IsOrdered, LineGives, LineLacksRank};
 ghost use Rattle.cops_import.specs.Lines.{LinesGive, lines};
+ghost use Rattle.cops_import.specs.Stores.{KeepsOrder};
 ghost use Rattle.cops_import.specs.declared.fault.JsonLineFault.{JsonLineFault as AFault};
 ghost use Rattle.cops_import.specs.declared.line.LineOp.{LineOp as AGivenOp};
+ghost use Rattle.cops_import.specs.declared.rules.Rules.{Rules as ARules};
 
-/// In each format the lines of a text describe at most one list of operations, and a line that describes one, or is
-/// blank, is not faulty.
+use crate::ranks::Ranks;
+
+/// However lines are read, those of a text describe at most one list of operations, and a line that describes one, or
+/// is blank, is not faulty, and does not lack a rank.
 pub fn lines_determine_one()
-    ensures one { (format : AFormat) (bytes : List ℕ) (a b : List AGivenOp) → LinesGive format (lines bytes) a → LinesGive format (lines bytes) b → a ≡ b }
-    ensures right { (format : AFormat) (line : List ℕ) (reported : Option AGivenOp) (fault : AFault) → LineGives format line reported → IsFaulty format line fault → ⊥ }
+    ensures one { (rules : ARules) → IsOrdered rules.versions → (bytes : List ℕ) (a b : List AGivenOp) → LinesGive rules (lines bytes) a → LinesGive rules (lines bytes) b → a ≡ b }
+    ensures right { (rules : ARules) → IsOrdered rules.versions → (line : List ℕ) (reported : Option AGivenOp) (fault : AFault) → LineGives rules line reported → IsFaulty rules line fault → ⊥ }
+    ensures ranked { (rules : ARules) → IsOrdered rules.versions → (line : List ℕ) (reported : Option AGivenOp) → LineGives rules line reported → LineLacksRank rules line → ⊥ }
 {}
+
+/// Ranks keep which versions of a store are equal, and their order.
+pub fn ranks_keep_order(ranks: &Ranks)
+    ensures { KeepsOrder ranks.now }
+{
+    let _ = ranks.len();
+}

@@ -2,14 +2,17 @@
 ghost use Rattle.std.specs.Prelude.{◌≡◌, ◌↔◌, Err, IfErr, IfOk, IsTrue, Some, option_map};
 ghost use Rattle.serde_json.specs.Data.{null};
 ghost use Rattle.serde_json.specs.View.{view};
-ghost use Rattle.cops_types.specs.declared.format.Format.{Format as AFormat};
 ghost use Rattle.cops_import.specs.declared.fault.JsonLineFault.{JsonLineFault as AFault};
-ghost use Rattle.cops_import.specs.Line.{FoundNothing, HasName, HasNoContent, IsAsked, IsBlank, IsFaulty, IsNothing, IsWrong, IsWrongIn, LineGives, Gives, GivesContent, TextGives, is_blank_line};
-ghost use Rattle.cops_import.specs.Asked.{IsWrongOf, GivesKind};
+ghost use Rattle.cops_import.specs.declared.rules.Rules.{Rules as ARules};
+ghost use Rattle.cops_import.specs.Line.{FoundNothing, HasName, HasNoContent, IsAsked, IsBlank, IsFaulty, IsNothing, IsWrong, IsWrongIn, LacksRank, LineGives, LineLacksRank, Gives, GivesContent, TextGives, TextLacksRank, is_blank_line};
+ghost use Rattle.cops_import.specs.Asked.{IsUnrankedOf, IsWrongOf, GivesKind};
 
 use crate::fault::JsonLineFault;
-use crate::field::{name_of, value_of, version_of};
+use crate::field::{name_of, value_of};
 use crate::name::Name;
+use crate::not_given::NotGiven;
+use crate::rules::Versions;
+use crate::version::version_of;
 use cops_json::{Unread, key};
 use cops_types::{Format, Op, Value};
 use serde_json::Value as Json;
@@ -30,54 +33,39 @@ pub(crate) enum Kind {
     Del,
 }
 
-/// Why a line gives no operation.
-#[derive(Clone, Copy, Debug, PartialEq, Eq)]
-pub(crate) enum NotGiven {
-    Memory,
-    Fault(JsonLineFault),
-}
-
-impl NotGiven {
-    ghost use Rattle.std.specs.Prelude.{◌≡◌};
-
-    /// Why a line gives no operation if one of its members was not read. `fault` is the line's fault if the member does
-    /// not have the right form.
-    fn of(unread: Unread, fault: JsonLineFault) -> NotGiven
-        ensures memory { unread ≡ Unread.Memory → result ≡ NotGiven.Memory }
-        ensures form { unread ≡ Unread.Form → result ≡ NotGiven.Fault fault }
-    {
-        match unread {
-            Unread::Memory => NotGiven::Memory,
-            Unread::Form => NotGiven::Fault(fault),
-        }
-    }
-}
-
 /// The operation of a line in a trace of the format, nothing if it is blank, or what is wrong with it.
 pub(crate) fn of_line(
     alloc: Global,
     format: Format,
+    versions: &Versions,
     line: &[u8],
 ) -> Result<Option<LineOp>, NotGiven>
-    ensures reported { IfOk result (LineGives format line.now) }
-    ensures wrong { (fault : AFault) → result ≡ Err (NotGiven.Fault fault) → IsFaulty format line.now fault }
+    ensures reported { IfOk result (LineGives (record { format = format; versions = versions.now }) line.now) }
+    ensures wrong { (fault : AFault) → result ≡ Err (NotGiven.Fault fault) → IsFaulty (record { format = format; versions = versions.now }) line.now fault }
+    ensures unranked { result ≡ Err NotGiven.Unranked → LineLacksRank (record { format = format; versions = versions.now }) line.now }
 {
     if is_blank(line) {
         return Ok(None);
     }
-    match of_text(alloc, format, line) {
+    match of_text(alloc, format, versions, line) {
         Ok(reported) => Ok(Some(reported)),
         Err(not_given) => Err(not_given),
     }
 }
 
 /// The operation of a line's JSON text.
-fn of_text(alloc: Global, format: Format, line: &[u8]) -> Result<LineOp, NotGiven>
-    ensures reported { IfOk result (TextGives format line.now) }
-    ensures wrong { (fault : AFault) → result ≡ Err (NotGiven.Fault fault) → IsWrongIn format line.now fault }
+fn of_text(
+    alloc: Global,
+    format: Format,
+    versions: &Versions,
+    line: &[u8],
+) -> Result<LineOp, NotGiven>
+    ensures reported { IfOk result (TextGives (record { format = format; versions = versions.now }) line.now) }
+    ensures wrong { (fault : AFault) → result ≡ Err (NotGiven.Fault fault) → IsWrongIn (record { format = format; versions = versions.now }) line.now fault }
+    ensures unranked { result ≡ Err NotGiven.Unranked → TextLacksRank (record { format = format; versions = versions.now }) line.now }
 {
     match Json::from_slice(alloc, line) {
-        Ok(object) => of_object(alloc, format, &object),
+        Ok(object) => of_object(alloc, format, versions, &object),
         Err(e) if e.is_memory() => Err(NotGiven::Memory),
         Err(_) => Err(NotGiven::Fault(JsonLineFault::NoJson)),
     }
@@ -93,19 +81,25 @@ pub fn is_blank(line: &[u8]) -> bool
 }
 
 /// The operation of an object.
-fn of_object(alloc: Global, format: Format, object: &Json) -> Result<LineOp, NotGiven>
-    ensures reported { IfOk result (Gives format (view object.now)) }
-    ensures wrong { (fault : AFault) → result ≡ Err (NotGiven.Fault fault) → IsWrong format (view object.now) fault }
+fn of_object(
+    alloc: Global,
+    format: Format,
+    versions: &Versions,
+    object: &Json,
+) -> Result<LineOp, NotGiven>
+    ensures reported { IfOk result (Gives (record { format = format; versions = versions.now }) (view object.now)) }
+    ensures wrong { (fault : AFault) → result ≡ Err (NotGiven.Fault fault) → IsWrong (record { format = format; versions = versions.now }) (view object.now) fault }
+    ensures unranked { result ≡ Err NotGiven.Unranked → LacksRank (record { format = format; versions = versions.now }) (view object.now) }
 {
     let name = match name_of(alloc, object) {
         Ok(name) => name,
         Err(unread) => return Err(NotGiven::of(unread, JsonLineFault::NoClient)),
     };
-    let (kind, at) = match asked(object) {
+    let asked = match asked(object) {
         Ok(asked) => asked,
         Err(fault) => return Err(NotGiven::Fault(fault)),
     };
-    match op(alloc, format, kind, at, object) {
+    match op(alloc, format, versions, asked, object) {
         Ok(op) => Ok(LineOp { name, op }),
         Err(not_given) => Err(not_given),
     }
@@ -114,7 +108,7 @@ fn of_object(alloc: Global, format: Format, object: &Json) -> Result<LineOp, Not
 /// The kind of an object's one operation, and the value that holds its key.
 fn asked(object: &Json) -> Result<(Kind, &Json), JsonLineFault>
     ensures one { IfOk result (λ asked. IsAsked (view object.now) asked.0 (view asked.1.now)) }
-    ensures wrong { IfErr result (λ fault. (format : AFormat) → HasName (view object.now) → IsWrong format (view object.now) fault) }
+    ensures wrong { IfErr result (λ fault. (rules : ARules) → HasName (view object.now) → IsWrong rules (view object.now) fault) }
 {
     match (object.get("put"), object.get("get"), object.get("del")) {
         (Some(at), None, None) => Ok((Kind::Put, at)),
@@ -125,11 +119,19 @@ fn asked(object: &Json) -> Result<(Kind, &Json), JsonLineFault>
     }
 }
 
-/// The operation of this kind, whose key is in `at`.
-fn op(alloc: Global, format: Format, kind: Kind, at: &Json, object: &Json) -> Result<Op, NotGiven>
-    ensures reported { IfOk result (GivesKind format (view object.now) kind (view at.now)) }
-    ensures wrong { (fault : AFault) → result ≡ Err (NotGiven.Fault fault) → IsWrongOf format (view object.now) kind (view at.now) fault }
+/// The operation of an object, given its kind and the value that holds its key.
+fn op(
+    alloc: Global,
+    format: Format,
+    versions: &Versions,
+    asked: (Kind, &Json),
+    object: &Json,
+) -> Result<Op, NotGiven>
+    ensures reported { IfOk result (GivesKind (record { format = format; versions = versions.now }) (view object.now) asked.entry.0 (view asked.entry.1.now)) }
+    ensures wrong { (fault : AFault) → result ≡ Err (NotGiven.Fault fault) → IsWrongOf (record { format = format; versions = versions.now }) (view object.now) asked.entry.0 (view asked.entry.1.now) fault }
+    ensures unranked { result ≡ Err NotGiven.Unranked → IsUnrankedOf (record { format = format; versions = versions.now }) (view object.now) asked.entry.0 (view asked.entry.1.now) }
 {
+    let (kind, at) = asked;
     let key = key(alloc, at).map_err(|unread| NotGiven::of(unread, JsonLineFault::BadKey))?;
     if kind == Kind::Get && found_nothing(object) {
         return Ok(Op::Missed { key });
@@ -138,10 +140,7 @@ fn op(alloc: Global, format: Format, kind: Kind, at: &Json, object: &Json) -> Re
         unread,
         JsonLineFault::BadValue,
     ))?;
-    let version = version_of(object).map_err(|unread| NotGiven::of(
-        unread,
-        JsonLineFault::BadVersion,
-    ))?;
+    let version = version_of(alloc, versions, object).map_err(|why| NotGiven::of_version(why))?;
     if !format.fits(content.as_ref()) {
         return Err(NotGiven::Fault(JsonLineFault::NeedsFormat2));
     }

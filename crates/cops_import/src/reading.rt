@@ -4,12 +4,13 @@ ghost use Rattle.cops_types.specs.declared.counted.Counted.{Counted as ACounted}
 ghost use Rattle.cops_types.specs.Counted.{failures, inner};
 ghost use Rattle.cops_import.specs.Faults.{IsCutBy, IsFaultOf, IsHeardBy, IsReadBy};
 ghost use Rattle.cops_import.specs.Imports.{IsImport};
-ghost use Rattle.cops_import.specs.Underway.{HasLeft, HasReadAll, IsUnderway, format_of};
+ghost use Rattle.cops_import.specs.Underway.{HasLeft, HasReadAll, IsUnderway, rules_of};
 
 use crate::fault::ImportFault;
 use crate::imported::{Imported, Unimported};
 use crate::importer::Importer;
-use cops_types::{Counted, Format};
+use crate::rules::Rules;
+use cops_types::Counted;
 use std::alloc::Global;
 use std::io::{Read, Write};
 
@@ -19,29 +20,29 @@ pub(crate) const PIECE: usize = 65_536;
 /// The most reads.
 pub(crate) const READS: u64 = 1 << 40;
 
-/// Writes the trace of a format that JSON Lines describe: one operation a line, in the order of each client, with the members that
-/// README.md lists. It keeps the names, the number of operations of each client, and one line in memory. On `Ok` the
-/// text is whole; on `Err` it is cut. A failed read or write is not tried again.
+/// Writes the trace that JSON Lines describe: one operation a line, in the order of each client, with the members that
+/// README.md lists, read as the rules say. It keeps the rules, the names, the number of operations of each client, and
+/// one line in memory. On `Ok` the text is whole; on `Err` it is cut. A failed read or write is not tried again.
 ///
 /// Errors: `Memory` if memory runs out, `ReadFailed` and `WriteFailed` if a read or a write fails, `Line` with the
-/// number, from 1, of the first wrong line, `Changed` if the lines do not name exactly `clients` clients, `Endless` if
-/// they do not end within 2^40 reads or there are 2^64 of them.
+/// number, from 1, of the first wrong line, `Changed` if the lines do not name exactly `clients` clients or a version has
+/// no rank, `Endless` if they do not end within 2^40 reads or there are 2^64 of them.
 pub fn import_stream<R: Read, W: Write>(
     alloc: Global,
-    format: Format,
+    rules: Rules,
     clients: u16,
     lines: &mut Counted<R>,
     trace: Counted<W>,
 ) -> Result<Imported<W>, Unimported<W>>
-    ensures ok { IfOk result (λ done. IfSome (R.remaining (inner lines.old)) (λ bytes. IsImport format bytes (W.contents (inner trace)) (W.contents (inner done.writer)) done.names done.operations)) }
+    ensures ok { IfOk result (λ done. IfSome (R.remaining (inner lines.old)) (λ bytes. IsImport rules bytes (W.contents (inner trace)) (W.contents (inner done.writer)) done.names done.operations)) }
     ensures clients { IfOk result (λ done. length done.names ≡ clients) }
-    ensures fault { IfErr result (λ u. IfSome (R.remaining (inner lines.old)) (λ bytes. IsFaultOf format clients bytes u.fault)) }
+    ensures fault { IfErr result (λ u. IfSome (R.remaining (inner lines.old)) (λ bytes. IsFaultOf rules clients bytes u.fault)) }
     ensures cut { IfErr result (λ u. IsCutBy u.fault (W.contents (inner trace)) (W.contents (inner u.writer))) }
     ensures heard { IfOk result (λ done. (failures done.writer ≡ failures trace) × (failures lines.new ≡ failures lines.old)) }
     ensures write { IfErr result (λ u. IsHeardBy u.fault (failures trace) (failures u.writer)) }
     ensures read { IfErr result (λ u. IsReadBy u.fault (failures lines.old) (failures lines.new)) }
 {
-    let mut importer = match Importer::new(alloc, trace, format, clients) {
+    let mut importer = match Importer::new(alloc, trace, rules, clients) {
         Ok(importer) => importer,
         Err(unimported) => return Err(unimported),
     };
@@ -58,11 +59,11 @@ fn read_lines<R: Read, W: Write>(
 ) -> Result<(), ImportFault>
     ensures ok { OnOk result ((from : ACounted W) → IsUnderway W.contents from [] importer.old → HasReadAll W.contents from (R.remaining (inner lines.old)) importer.new) }
     ensures err { IfErr result (λ e. (from : ACounted W) → IsUnderway W.contents from [] importer.old → HasLeft W.contents from e importer.new.writer.writer) }
-    ensures fault { IfErr result (λ e. (from : ACounted W) → IsUnderway W.contents from [] importer.old → IfSome (R.remaining (inner lines.old)) (λ bytes. IsFaultOf (format_of importer.old) importer.old.clients bytes e)) }
+    ensures fault { IfErr result (λ e. (from : ACounted W) → IsUnderway W.contents from [] importer.old → IfSome (R.remaining (inner lines.old)) (λ bytes. IsFaultOf (rules_of importer.old) importer.old.clients bytes e)) }
     ensures heard { OnOk result (failures lines.new ≡ failures lines.old) }
     ensures read { IfErr result (λ e. IsReadBy e (failures lines.old) (failures lines.new)) }
     ensures clients { importer.new.clients ≡ importer.old.clients }
-    ensures format { OnOk result (format_of importer.new ≡ format_of importer.old) }
+    ensures rules { OnOk result (rules_of importer.new ≡ rules_of importer.old) }
 {
     let mut piece = [0u8; PIECE];
     for _ in 0..READS {

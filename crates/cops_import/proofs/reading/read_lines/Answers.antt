@@ -18,7 +18,7 @@ pub returns-in-Err-take_piece-clause-fault : goal.returns-in-Err-take_piece-clau
 returns-in-Err-take_piece-clause-fault g c = λ from u.
     let read = c.loop.invariant.fed in
     let stop = c.in-Err-take_piece.ensures.err from read.0 (read.3 from u) in
-    fault_as _ _ _ _ _ c.in-Err-take_piece.fault c.loop.invariant.format c.loop.invariant.clients
+    fault_as _ _ _ _ _ c.in-Err-take_piece.fault c.loop.invariant.rules c.loop.invariant.clients
     (fault_read _ _ _ read.0 (take c.in-Ok.count c.read.new.buf) _ _ c.in-Err-take_piece.fault read.1 c.in-Ok.ensures.bytes.0 stop.says)
 
 pub loop-preserved : goal.loop-preserved
@@ -29,7 +29,7 @@ loop-preserved g c =
       fed = (read.0 ++ taken, consumed _ _ _ read.0 taken read.1 c.in-Ok.ensures.bytes.0, omega (arith, length-append read.0 taken, c.in-Ok.ensures.bound.1, read.2, c.if-count-eq0.false), λ from u. c.in-Ok-take_piece.ensures.ok from read.0 (read.3 from u));
       count = c.in-Ok.ensures.count ∙ c.loop.invariant.count;
       clients = c.in-Ok-take_piece.ensures.clients ∙ c.loop.invariant.clients;
-      format = c.in-Ok-take_piece.ensures.format ∙ c.loop.invariant.format;
+      rules = c.in-Ok-take_piece.ensures.rules ∙ c.loop.invariant.rules;
     }
 
 pub returns-then-count-eq0-clause-ok : goal.returns-then-count-eq0-clause-ok

@@ -2,7 +2,7 @@ use Rattle.std.proofs.Common.{◌≡◌, ◌≤◌, ℕ, List, [], length}
 use Rattle.std.specs.Io.KnownBytes.{Consumes}
 use Rattle.cops_types.specs.Counted.{failures, inner}
 use Rattle.cops_types.specs.declared.counted.Counted.{Counted}
-use Rattle.cops_import.specs.Underway.{IsUnderway, format_of}
+use Rattle.cops_import.specs.Underway.{IsUnderway, rules_of}
 use Rattle.cops_import.proofs.reading.read_lines.Given as goal
 
 abbrev pub invariant-loop : goal.invariant-loop
@@ -13,5 +13,5 @@ invariant-loop g l =
           × ((from : Counted g.row.W.Denot) → IsUnderway g.W.Write.contents from [] l.fn.importer → IsUnderway g.W.Write.contents from fed l.importer);
       count : failures l.lines ≡ failures l.fn.lines;
       clients : l.importer.clients ≡ l.fn.importer.clients;
-      format : format_of l.importer ≡ format_of l.fn.importer;
+      rules : rules_of l.importer ≡ rules_of l.fn.importer;
     }

@@ -1,6 +1,6 @@
 use Rattle.std.proofs.Common.{◌≡◌, ◌+◌, ◌≤◌, ℕ, ap, subst, ◌∙◌, rules}
-use Rattle.cops_types.specs.declared.format.Format.{Format}
-use Rattle.cops_import.specs.Underway.{HasEnded, IsStopAtEnd, format_of}
+use Rattle.cops_import.specs.declared.rules.Rules.{Rules}
+use Rattle.cops_import.specs.Underway.{HasEnded, IsStopAtEnd, rules_of}
 use Rattle.cops_import.proofs.Records.{cut_so_far}
 use Rattle.cops_import.proofs.Steps.{endless_says, last_taken}
 use Rattle.cops_import.proofs.Stops.{if_err, if_ok, stops_ended, stops_last}
@@ -13,21 +13,21 @@ pub returns-in-Ok-clause-ok : goal.returns-in-Ok-clause-ok
 returns-in-Ok-clause-ok g c = if_ok c.end.result _ _
     (λ done h from fed u.
     let last = last_taken g.W.Write.contents from fed c.args.self c.take_line.new.self u (c.in-Ok.ensures.ok from u.given u.taken) in
-    (last.0, last.1, subst (λ (f : Format). HasEnded g.W.Write.contents from f last.0 done) c.in-Ok.ensures.format (h from last.0 last.2)))
+    (last.0, last.1, subst (λ (f : Rules). HasEnded g.W.Write.contents from f.format last.0 done) c.in-Ok.ensures.rules (h from last.0 last.2)))
     c.end.ensures.ok
 
 pub returns-in-Ok-clause-fault : goal.returns-in-Ok-clause-fault
 returns-in-Ok-clause-fault g c = if_err c.end.result _ _
     (λ e h from fed u.
     let last = last_taken g.W.Write.contents from fed c.args.self c.take_line.new.self u (c.in-Ok.ensures.ok from u.given u.taken) in
-    stops_ended (format_of c.args.self) c.args.self.clients fed last.0 e.fault last.1 (subst (λ (k : ℕ). IsStopAtEnd k last.0 e.fault) c.in-Ok.ensures.clients (h from last.0 last.2)))
+    stops_ended (rules_of c.args.self) c.args.self.clients fed last.0 e.fault last.1 (subst (λ (k : ℕ). IsStopAtEnd k last.0 e.fault) c.in-Ok.ensures.clients (h from last.0 last.2)))
     c.end.ensures.stop
 
 pub returns-in-Err-clause-fault : goal.returns-in-Err-clause-fault
 returns-in-Err-clause-fault g c = λ from fed u.
     let next : c.in-Some.number ≡ c.args.self.ended + 1 = search rules in
     rw c.give_up-in-Err.ensures
-    (stops_last (format_of c.args.self) c.args.self.clients fed u.ended c.args.self.line.items u.given c.in-Some.number c.in-Err.fault u.split u.within u.report (next ∙ ap (λ (n : ℕ). n + 1) u.counted)
+    (stops_last (rules_of c.args.self) c.args.self.clients fed u.ended c.args.self.line.items u.given c.in-Some.number c.in-Err.fault u.split u.within u.report (next ∙ ap (λ (n : ℕ). n + 1) u.counted)
     (c.in-Err.ensures.stop from u.given u.taken))
 
 pub returns-in_default-clause-fault : goal.returns-in_default-clause-fault
