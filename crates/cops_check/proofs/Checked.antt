@@ -1,10 +1,9 @@
 -- From a trace that was imported to what is said of its lines.
 use Rattle.std.proofs.Common.{◌≡◌, ◌++◌, ℕ, List, Option, Some, None, map, subst, inl, inr, sym, ◌∙◌, take, drop}
-use Rattle.std.specs.Prelude.{IfSome}
+use Rattle.std.specs.Prelude.{Bool, IfSome}
 use Rattle.std.specs.Global.{Vec}
 use Rattle.std.specs.Io.KnownBytes.{Appends}
 use Rattle.std.proofs.lemmas.List.{take-append-drop}
-use Rattle.cops_types.specs.declared.format.Format.TheVariants.{Two}
 use Rattle.cops_types.specs.declared.selection.Selection.{Selection}
 use Rattle.cops_audit.proofs.Consequences.{convergent}
 use Rattle.cops_trace.specs.Text.{ATrace, sessions_of}
@@ -12,34 +11,35 @@ use Rattle.cops_explain.specs.declared.naming.Naming.{Naming}
 use Rattle.cops_explain.specs.declared.naming.Naming.TheVariants.{Lines}
 use Rattle.cops_import.specs.Lines.{lines, names_of, trace_of}
 use Rattle.cops_import.specs.declared.line.LineOp.{LineOp}
+use Rattle.cops_import.specs.declared.rules.Rules.{Rules}
 use Rattle.cops_audit_commands.proofs.ReportedText.{accepts}
 use Rattle.cops_audit_commands.specs.Explain.{IsDrawing, IsExplanation}
 use Rattle.cops_audit_commands.specs.declared.audit.Answer.{Answer}
 use Rattle.cops_audit_commands.specs.declared.audit.Answer.TheVariants.{Accepted}
 use Rattle.cops_audit_commands.specs.declared.explain.Request.{Request}
-use Rattle.cops_check.specs.Check.{CheckSays, Describes, DescribesConvergent, DrawingSays, WritesChecked, WritesPrefixChecked, naming_of}
+use Rattle.cops_check.specs.Check.{CheckSays, Describes, DescribesConvergent, DrawingSays, DrawsBy, SaysBy, WritesPrefixChecked, naming_of}
 use Rattle.cops_check.specs.Numbers.{numbers_from, op_lines}
 
 -- what the lines call the operations of their trace
-named : (bytes : List ℕ) (given : List LineOp) (t : ATrace) (names : List (List ℕ)) (naming : Naming) → trace_of Two given ≡ t → names ≡ names_of given
+named : (rules : Rules) (bytes : List ℕ) (given : List LineOp) (t : ATrace) (names : List (List ℕ)) (naming : Naming) → trace_of rules.format given ≡ t → names ≡ names_of given
     → naming ≡ Lines (record { names = names; lines = op_lines t.clients (map (λ r. r.client) t.records) (numbers_from 1 (lines bytes)) }) → naming ≡ naming_of bytes given
-named bytes given t names naming same are is = rw (← same, are) at is
+named rules bytes given t names naming same are is = rw (← same, are) at is
 
-pub says_trace : (bytes : List ℕ) (given : List LineOp) (t : ATrace) (names : List (List ℕ)) (naming : Naming) (request : Request) (answer : Answer) (text : List ℕ)
-    → Describes bytes given → trace_of Two given ≡ t → names ≡ names_of given
+pub says_trace : (rules : Rules) (bytes : List ℕ) (given : List LineOp) (t : ATrace) (names : List (List ℕ)) (naming : Naming) (request : Request) (answer : Answer) (text : List ℕ)
+    → Describes rules bytes given → trace_of rules.format given ≡ t → names ≡ names_of given
     → naming ≡ Lines (record { names = names; lines = op_lines t.clients (map (λ r. r.client) t.records) (numbers_from 1 (lines bytes)) })
-    → IsExplanation t naming request answer text → CheckSays request bytes answer text
-says_trace bytes given t names naming request answer text describes same are is explained =
-    let at : IsExplanation (trace_of Two given) naming request answer text = subst (λ (u : ATrace). IsExplanation u naming request answer text) (sym same) explained in
-    inl (given, describes, subst (λ (n : Naming). IsExplanation (trace_of Two given) n request answer text) (named bytes given t names naming same are is) at)
+    → IsExplanation t naming request answer text → SaysBy rules request bytes answer text
+says_trace rules bytes given t names naming request answer text describes same are is explained =
+    let at : IsExplanation (trace_of rules.format given) naming request answer text = subst (λ (u : ATrace). IsExplanation u naming request answer text) (sym same) explained in
+    inl (given, describes, subst (λ (n : Naming). IsExplanation (trace_of rules.format given) n request answer text) (named rules bytes given t names naming same are is) at)
 
-pub draws_trace : (bytes : List ℕ) (given : List LineOp) (t : ATrace) (names : List (List ℕ)) (naming : Naming) (asked : Selection) (picture : Option (Vec ℕ))
-    → Describes bytes given → trace_of Two given ≡ t → names ≡ names_of given
+pub draws_trace : (rules : Rules) (bytes : List ℕ) (given : List LineOp) (t : ATrace) (names : List (List ℕ)) (naming : Naming) (asked : Selection) (picture : Option (Vec ℕ))
+    → Describes rules bytes given → trace_of rules.format given ≡ t → names ≡ names_of given
     → naming ≡ Lines (record { names = names; lines = op_lines t.clients (map (λ r. r.client) t.records) (numbers_from 1 (lines bytes)) })
-    → IsDrawing t naming asked picture → DrawingSays asked bytes picture
-draws_trace bytes given t names naming asked picture describes same are is drawn =
-    let at : IsDrawing (trace_of Two given) naming asked picture = subst (λ (u : ATrace). IsDrawing u naming asked picture) (sym same) drawn in
-    inl (given, describes, subst (λ (n : Naming). IsDrawing (trace_of Two given) n asked picture) (named bytes given t names naming same are is) at)
+    → IsDrawing t naming asked picture → DrawsBy rules asked bytes picture
+draws_trace rules bytes given t names naming asked picture describes same are is drawn =
+    let at : IsDrawing (trace_of rules.format given) naming asked picture = subst (λ (u : ATrace). IsDrawing u naming asked picture) (sym same) drawn in
+    inl (given, describes, subst (λ (n : Naming). IsDrawing (trace_of rules.format given) n asked picture) (named rules bytes given t names naming same are is) at)
 
 -- what holds of the bytes that were read holds of those that the reader had
 pub known : (a : Option (List ℕ)) (P : List ℕ → Type 0) (bytes : List ℕ) → IfSome a (λ all. bytes ≡ all) → P bytes → IfSome a P
@@ -47,13 +47,19 @@ known None P bytes same p = tt
 known (Some all) P bytes same p = subst P same p
 
 -- lines that are accepted describe a history that converges
-pub accepted_lines : (request : Request) (bytes : List ℕ) (answer : Answer) (text : List ℕ) → CheckSays request bytes answer text → answer ≡ Accepted → DescribesConvergent bytes
-accepted_lines request bytes answer text (inl (given, describes, e)) is =
-    record { given = given; describes = describes; convergent = convergent (sessions_of (trace_of Two given)) e.verdict e.is_verdict (accepts e.verdict (sym e.answer_is ∙ is)) }
-accepted_lines request bytes answer text (inr (number, fault, first, faulty, line)) is = absurd cc
+pub accepted_lines : (is_ranked : Bool) (request : Request) (bytes : List ℕ) (answer : Answer) (text : List ℕ) → CheckSays is_ranked request bytes answer text → answer ≡ Accepted
+    → DescribesConvergent is_ranked bytes
+accepted_lines is_ranked request bytes answer text (rules, are, inl (given, describes, e)) is = record {
+  rules = rules;
+  are_rules = are;
+  given = given;
+  describes = describes;
+  convergent = convergent (sessions_of (trace_of rules.format given)) e.verdict e.is_verdict (accepts e.verdict (sym e.answer_is ∙ is));
+}
+accepted_lines is_ranked request bytes answer text (rules, are, inr (number, fault, first, faulty, line)) is = absurd cc
 
 -- a prefix of the text was written
-pub prefix_written : (request : Request) (bytes : List ℕ) (answer : Answer) (text : List ℕ) (n : ℕ) (old new : Option (List ℕ)) → CheckSays request bytes answer text
-    → Appends old new (take n text) → WritesPrefixChecked request bytes old new
-prefix_written request bytes answer text n old new says appends =
-    (answer, take n text, drop n text, subst (λ (x : List ℕ). CheckSays request bytes answer x) (sym (take-append-drop n text)) says, appends)
+pub prefix_written : (is_ranked : Bool) (request : Request) (bytes : List ℕ) (answer : Answer) (text : List ℕ) (n : ℕ) (old new : Option (List ℕ))
+    → CheckSays is_ranked request bytes answer text → Appends old new (take n text) → WritesPrefixChecked is_ranked request bytes old new
+prefix_written is_ranked request bytes answer text n old new says appends =
+    (answer, take n text, drop n text, subst (λ (x : List ℕ). CheckSays is_ranked request bytes answer x) (sym (take-append-drop n text)) says, appends)

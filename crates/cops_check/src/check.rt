@@ -3,13 +3,12 @@ ghost use Rattle.std.specs.Prelude.{◌≡◌, ◌⊎◌, [], Some, IfErr, IfOk,
 ghost use Rattle.std.specs.Io.KnownBytes.{Keeps};
 ghost use Rattle.cops_types.specs.Counted.{failures, inner};
 ghost use Rattle.cops_types.specs.Failures.{ReportsFailure};
-ghost use Rattle.cops_types.specs.declared.format.Format.TheVariants.{Two};
-ghost use Rattle.cops_import.specs.Faults.{IsFirstFaulty};
+ghost use Rattle.cops_import.specs.declared.rules.Rules.{Rules as ARules};
 ghost use Rattle.cops_import.specs.Imports.{IsImport};
 ghost use Rattle.cops_import.specs.Lines.{lines};
 ghost use Rattle.cops_audit_commands.specs.declared.audit.Answer.TheVariants as answer;
 ghost use Rattle.cops_explain.specs.declared.naming.Naming.TheVariants.{Lines};
-ghost use Rattle.cops_check.specs.Check.{CheckSays, DescribesConvergent, DrawingSays, WritesChecked, WritesPrefixChecked, wrong_text};
+ghost use Rattle.cops_check.specs.Check.{CheckSays, DescribesConvergent, DrawingSays, DrawsBy, SaysBy, WritesChecked, WritesPrefixChecked, wrong_text};
 ghost use Rattle.cops_check.specs.Numbers.{numbers_from, op_lines};
 
 use crate::fault::CheckFault;
@@ -19,7 +18,7 @@ use cops_command::read_all;
 use cops_explain::{LineNames, Naming};
 use cops_explain_json::faulty_json;
 use cops_import::{
-    ImportFault, Imported, JsonLineFault, Names, count_clients, faulty_line, import_stream,
+    ImportFault, Imported, JsonLineFault, Names, Rules, Surveyed, faulty_line, import_stream, survey,
 };
 use cops_trace::{Trace, read_trace};
 use cops_types::{Counted, Format, write_text};
@@ -52,16 +51,17 @@ fn naming_of(alloc: Global, bytes: &[u8], names: &Names, trace: &Trace) -> Resul
     Ok(Naming::Lines(LineNames::new(names, lines)))
 }
 
-/// What is said of the lines of a text, of which this trace was imported.
+/// What is said of the lines of a text, if this trace was imported of them.
 fn judged(
     alloc: Global,
     bytes: &[u8],
     imported: Imported<Vec<u8>>,
     request: Request,
 ) -> Result<ExplainedText, CheckFault>
-    requires { IsImport Two bytes.now (Some []) (Some (inner imported.writer).items) imported.names imported.operations }
-    ensures says { IfOk result (λ reported. CheckSays request bytes.now reported.explained.answer reported.text.items) }
-    ensures drawn { request.is_drawn ≡ true → IfOk result (λ reported. DrawingSays request.faults bytes.now reported.explained.picture) }
+    ensures says { (rules : ARules) → IsImport rules bytes.now (Some []) (Some (inner imported.writer).items) imported.names imported.operations
+        → IfOk result (λ reported. SaysBy rules request bytes.now reported.explained.answer reported.text.items) }
+    ensures drawn { request.is_drawn ≡ true → (rules : ARules) → IsImport rules bytes.now (Some []) (Some (inner imported.writer).items) imported.names imported.operations
+        → IfOk result (λ reported. DrawsBy rules request.faults bytes.now reported.explained.picture) }
     ensures none { request.is_drawn ≡ false → IfOk result (λ reported. reported.explained.picture ≡ None) }
     ensures faults { IfErr result (λ e. e ≡ CheckFault.Memory) }
 {
@@ -69,7 +69,7 @@ fn judged(
     let text = writer.into_inner();
     let trace = match read_trace(alloc, &mut Counted::new(text.as_slice())) {
         Ok(trace) => trace,
-        // The text is a trace's, so no other fault is possible.
+        // The text of an import is a trace's, which has no fault.
         Err(_) => return Err(CheckFault::Memory),
     };
     drop(text);
@@ -96,18 +96,27 @@ fn wrong_text(
 }
 
 /// What is said of the lines of a text, with the picture that is asked for.
-fn checked(alloc: Global, bytes: &[u8], request: Request) -> Result<ExplainedText, CheckFault>
-    ensures says { IfOk result (λ reported. CheckSays request bytes.now reported.explained.answer reported.text.items) }
-    ensures drawn { request.is_drawn ≡ true → IfOk result (λ reported. DrawingSays request.faults bytes.now reported.explained.picture) }
+fn checked(
+    alloc: Global,
+    bytes: &[u8],
+    is_ranked: bool,
+    request: Request,
+) -> Result<ExplainedText, CheckFault>
+    ensures says { IfOk result (λ reported. CheckSays is_ranked request bytes.now reported.explained.answer reported.text.items) }
+    ensures drawn { request.is_drawn ≡ true → IfOk result (λ reported. DrawingSays is_ranked request.faults bytes.now reported.explained.picture) }
     ensures none { request.is_drawn ≡ false → IfOk result (λ reported. reported.explained.picture ≡ None) }
     ensures faults { IfErr result (λ e. (e ≡ CheckFault.Memory) ⊎ (e ≡ CheckFault.Changed)) }
 {
-    let clients = match count_clients(alloc, &mut Counted::new(bytes)) {
-        Ok(clients) => clients,
+    let Surveyed { clients, versions } = match survey(alloc, is_ranked, &mut Counted::new(bytes)) {
+        Ok(surveyed) => surveyed,
         Err(fault) => return Err(CheckFault::of_import(fault)),
     };
+    let rules = Rules {
+        format: Format::Two,
+        versions,
+    };
     let trace = Counted::new(Vec::new(alloc));
-    match import_stream(alloc, Format::Two, clients, &mut Counted::new(bytes), trace) {
+    match import_stream(alloc, rules, clients, &mut Counted::new(bytes), trace) {
         Ok(imported) => judged(alloc, bytes, imported, request),
         Err(unimported) => match unimported.fault {
             ImportFault::Line { number, fault } => Ok(ExplainedText {
@@ -122,36 +131,37 @@ fn checked(alloc: Global, bytes: &[u8], request: Request) -> Result<ExplainedTex
     }
 }
 
-/// Reads JSON Lines to their end, judges the trace of format 2 that they describe by one worker, and returns the answer
-/// of its audit. It writes the text of `explain`, or of `explain_json`, for the faults that are asked for, with the
+/// Reads JSON Lines to their end, with their versions by their ranks or as they stand, judges the trace of format 2 that
+/// they describe by one worker, and returns the answer of its audit. It writes the text of `explain`, or of `explain_json`, for the faults that are asked for, with the
 /// clients' names and the lines' numbers for the operations, or what is wrong with the first wrong line, and nothing
 /// else. Where a picture is asked for, it also returns that of the one fault that is asked for, or of the first, if
 /// there is such a fault. Nothing is written before the input's end.
 ///
 /// The errors: `ReadFailed` where a read failed, and `WriteFailed` where a write failed, neither of which is tried
-/// again; `Memory` where memory runs out; `Changed` where the lines name other clients than were counted. At the last
-/// two nothing is written.
+/// again; `Memory` where memory runs out; `Changed` where the lines name other clients, or have other versions, than a
+/// first pass over them found. At the last two nothing is written.
 pub fn check_stream<R: Read, W: Write>(
     alloc: Global,
     lines: &mut Counted<R>,
     writer: &mut Counted<W>,
+    is_ranked: bool,
     request: Request,
 ) -> Result<Explained, CheckFault>
     // What is written is the explanation of the reader's lines.
     ensures ok { IfOk result (λ explained. IfSome (R.remaining (inner lines.old)) (λ bytes.
-        WritesChecked request bytes explained.answer (W.contents (inner writer.old)) (W.contents (inner writer.new)))) }
+        WritesChecked is_ranked request bytes explained.answer (W.contents (inner writer.old)) (W.contents (inner writer.new)))) }
 
     // Where the answer is accepted, the lines describe one history, and it is causally convergent.
-    ensures accepted { IfOk result (λ explained. explained.answer ≡ answer.Accepted → IfSome (R.remaining (inner lines.old)) DescribesConvergent) }
+    ensures accepted { IfOk result (λ explained. explained.answer ≡ answer.Accepted → IfSome (R.remaining (inner lines.old)) (DescribesConvergent is_ranked)) }
 
     // What is drawn is the picture of that fault, where it is to be drawn.
-    ensures drawn { request.is_drawn ≡ true → IfOk result (λ explained. IfSome (R.remaining (inner lines.old)) (λ bytes. DrawingSays request.faults bytes explained.picture)) }
+    ensures drawn { request.is_drawn ≡ true → IfOk result (λ explained. IfSome (R.remaining (inner lines.old)) (λ bytes. DrawingSays is_ranked request.faults bytes explained.picture)) }
     ensures none { request.is_drawn ≡ false → IfOk result (λ explained. explained.picture ≡ None) }
 
     // Where a write failed, a prefix of the text is written; on any other error nothing is.
     ensures nothing { (IsErrOf result CheckFault.WriteFailed) ⊎ (Keeps (W.contents (inner writer.old)) (W.contents (inner writer.new))) ⊎ (IfErr result (λ e. ⊥)) }
     ensures write_failed { IsErrOf result CheckFault.WriteFailed → IfSome (R.remaining (inner lines.old)) (λ bytes.
-        WritesPrefixChecked request bytes (W.contents (inner writer.old)) (W.contents (inner writer.new))) }
+        WritesPrefixChecked is_ranked request bytes (W.contents (inner writer.old)) (W.contents (inner writer.new))) }
 
     // A device's fault is reported exactly where it was met, the reader's and the writer's.
     ensures reads { ReportsFailure (IsErrOf result CheckFault.ReadFailed) (failures lines.old) (failures lines.new) }
@@ -160,7 +170,7 @@ pub fn check_stream<R: Read, W: Write>(
     let Some(bytes) = read_all(alloc, lines)? else {
         return Err(CheckFault::ReadFailed);
     };
-    let ExplainedText { explained, text } = checked(alloc, &bytes, request)?;
+    let ExplainedText { explained, text } = checked(alloc, &bytes, is_ranked, request)?;
     match write_text(writer, &text) {
         Ok(()) => Ok(explained),
         Err(_) => Err(CheckFault::WriteFailed),

@@ -14,8 +14,8 @@ pub enum CheckFault {
     /// The writer failed.
     #[error("the writer failed")]
     WriteFailed,
-    /// The clients were counted otherwise than the lines name them.
-    #[error("another number of clients")]
+    /// The lines name other clients, or have other versions, than a first pass over them found.
+    #[error("the lines changed")]
     Changed,
 }
 

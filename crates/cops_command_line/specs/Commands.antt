@@ -48,6 +48,10 @@ picture_option = value_option (codes "picture")
 abbrev pub json_option : Rule
 json_option = flag_option (codes "json")
 
+-- `--rank`, which may be left out and takes no value
+abbrev pub rank_option : Rule
+rank_option = flag_option (codes "rank")
+
 -- `--format N`, which may be left out and takes 1 or 2
 abbrev pub format_option : Rule
 format_option = number_option (codes "format") (parser.Signed (pos 1) (pos 2))
@@ -76,17 +80,18 @@ explaining app = with_rule (with_rule (with_rule (with_rule app all_option) faul
 abbrev pub explain_app : App
 explain_app = explaining (with_rule (new_app (codes "explain")) (positional (codes "trace")))
 
--- `check LINES`
+-- `check LINES`, with `--rank` or without it
 abbrev pub check_app : App
-check_app = explaining (with_rule (new_app (codes "check")) (positional (codes "lines")))
+check_app = with_rule (explaining (with_rule (new_app (codes "check")) (positional (codes "lines")))) rank_option
 
 -- `show TRACE`
 abbrev pub show_app : App
 show_app = with_rule (new_app (codes "show")) (positional (codes "trace"))
 
--- `import LINES TRACE`, with `--format N` or without it
+-- `import LINES TRACE`, with `--format N` and `--rank` or without them
 abbrev pub import_app : App
-import_app = with_rule (with_rule (with_rule (new_app (codes "import")) (positional (codes "lines"))) (positional (codes "trace"))) format_option
+import_app =
+    with_rule (with_rule (with_rule (with_rule (new_app (codes "import")) (positional (codes "lines"))) (positional (codes "trace"))) format_option) rank_option
 
 -- `convert TRACE NEW`
 abbrev pub convert_app : App

@@ -1,5 +1,5 @@
 -- The job that words ask for, and what it means that they ask for none.
-use Rattle.std.specs.Prelude.{◌≡◌, ◌≢◌, ◌≤◌, ◌↔◌, ℕ, List, [], ◌∷◌, codes, Option, Some, None, option_map, IsTrue}
+use Rattle.std.specs.Prelude.{◌≡◌, ◌≢◌, ◌≤◌, ◌↔◌, ℕ, List, [], ◌∷◌, codes, Option, Some, None, option_map, Bool, IsTrue}
 use Rattle.std.specs.Str.Parse.{IsNumeral, digits_value, without_leading_plus}
 use Rattle.clap.specs.Words.{Row, Text, first_of, subcommand_of, fault_of, IsAmong}
 use Rattle.clap.specs.declared.error.kind.ErrorKind.{ErrorKind}
@@ -49,11 +49,15 @@ IsAsked all fault First = (¬ IsGiven all) × (fault ≡ None)
 IsAsked all fault All = IsGiven all × (fault ≡ None)
 IsAsked all fault (One n) = (¬ IsGiven all) × IsNumberGiven MAX_OPS fault n
 
+-- whether a flag was given
+abbrev pub IsFlag : Text → List Row → Bool → Type 0
+IsFlag id rows is_given = IsTrue is_given ↔ IsGiven (first_of id rows)
+
 -- the explanation that the values of `--all`, `--fault`, `--picture` and `--json` ask for
 pub record IsWanted (rows : List Row) (wanted : Wanted) : Type 0 where
   pub faults : IsAsked (first_of (codes "all") rows) (first_of (codes "fault") rows) wanted.faults
   pub picture : option_map (λ s. s.now) wanted.picture ≡ first_of (codes "picture") rows
-  pub json : IsTrue wanted.is_json ↔ IsGiven (first_of (codes "json") rows)
+  pub json : IsFlag (codes "json") rows wanted.is_json
 
 -- the format whose number a value is: format 1 where there is no value
 abbrev pub IsFormat : Option Text → Format → Type 0
@@ -66,11 +70,12 @@ IsJobOf name rows (Audit trace workers) =
 IsJobOf name rows (SoFar trace) =
     (name ≡ codes "audit") × (first_of (codes "trace") rows ≡ Some trace.now) × IsGiven (first_of (codes "so-far") rows) × (first_of (codes "workers") rows ≡ None)
 IsJobOf name rows (Explain trace wanted) = (name ≡ codes "explain") × (first_of (codes "trace") rows ≡ Some trace.now) × IsWanted rows wanted
-IsJobOf name rows (Check lines wanted) = (name ≡ codes "check") × (first_of (codes "lines") rows ≡ Some lines.now) × IsWanted rows wanted
+IsJobOf name rows (Check lines is_ranked wanted) =
+    (name ≡ codes "check") × (first_of (codes "lines") rows ≡ Some lines.now) × IsFlag (codes "rank") rows is_ranked × IsWanted rows wanted
 IsJobOf name rows (Show trace) = (name ≡ codes "show") × (first_of (codes "trace") rows ≡ Some trace.now)
-IsJobOf name rows (Import lines trace format) =
+IsJobOf name rows (Import lines trace format is_ranked) =
     (name ≡ codes "import") × (first_of (codes "lines") rows ≡ Some lines.now) × (first_of (codes "trace") rows ≡ Some trace.now)
-    × IsFormat (first_of (codes "format") rows) format
+    × IsFormat (first_of (codes "format") rows) format × IsFlag (codes "rank") rows is_ranked
 IsJobOf name rows (Convert trace new) = (name ≡ codes "convert") × (first_of (codes "trace") rows ≡ Some trace.now) × (first_of (codes "new") rows ≡ Some new.now)
 IsJobOf name rows (Run scenario trace) = (name ≡ codes "run") × (first_of (codes "scenario") rows ≡ Some scenario.now) × (first_of (codes "trace") rows ≡ Some trace.now)
 IsJobOf name rows (Serve port scenario sessions idle) =

@@ -2,12 +2,12 @@
 ghost use Rattle.std.specs.Prelude.{◌≡◌, false, pos};
 ghost use Rattle.clap.specs.Words.{rule_of};
 ghost use Rattle.clap.specs.declared.builder.value_parser.ValueParser.TheVariants as parser;
-ghost use Rattle.cops_command_line.specs.Commands.{all_option, fault_option, flag_option, format_option, idle_option, json_option, number_option, picture_option, port_argument, positional, sessions_option, so_far_option, value_option, workers_option};
+ghost use Rattle.cops_command_line.specs.Commands.{all_option, fault_option, flag_option, format_option, idle_option, json_option, number_option, picture_option, port_argument, positional, rank_option, sessions_option, so_far_option, value_option, workers_option};
 ghost use Rattle.cops_command_line.specs.declared.job.TheConstants.{MAX_PORT};
 
 use crate::job::MAX_PORT;
 use crate::texts::{
-    ALL_HELP, FAULT_HELP, FORMAT_HELP, IDLE_HELP, JSON_HELP, PICTURE_HELP, PORT_HELP, SESSIONS_HELP, SO_FAR_HELP,
+    ALL_HELP, FAULT_HELP, FORMAT_HELP, IDLE_HELP, JSON_HELP, PICTURE_HELP, RANK_HELP, PORT_HELP, SESSIONS_HELP, SO_FAR_HELP,
     WORKERS_HELP,
 };
 use clap::builder::ValueParser;
@@ -124,6 +124,14 @@ pub fn json_arg<'a>(alloc: Global) -> Arg<'a>
     ensures local { result.global ≡ false }
 {
     flag_arg(alloc, "json", JSON_HELP)
+}
+
+/// The flag that asks for versions by their ranks.
+pub fn rank_arg<'a>(alloc: Global) -> Arg<'a>
+    ensures rule { rule_of result ≡ rank_option }
+    ensures local { result.global ≡ false }
+{
+    flag_arg(alloc, "rank", RANK_HELP)
 }
 
 /// The option that names a trace's format.

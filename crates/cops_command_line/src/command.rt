@@ -6,7 +6,7 @@ ghost use Rattle.cops_command_line.specs.Commands.{audit_app, check_app, explain
 
 use crate::arguments::{
     all_arg, fault_arg, file_arg, format_arg, idle_arg, json_arg, picture_arg, port_arg,
-    sessions_arg, so_far_arg, workers_arg,
+    rank_arg, sessions_arg, so_far_arg, workers_arg,
 };
 use crate::texts::{
     ABOUT, AUDIT_ABOUT, AUDIT_LONG_ABOUT, CHECK_ABOUT, CHECK_LONG_ABOUT, CONVERT_ABOUT, CONVERT_LONG_ABOUT, EXPLAIN_ABOUT,
@@ -94,7 +94,7 @@ fn check_command<'a>(alloc: Global) -> Result<Command<'a>, AllocError>
 {
     let lines = file_arg(alloc, "lines", "LINES", LINES_HELP);
     let command = of_argument(alloc, "check", CHECK_ABOUT, CHECK_LONG_ABOUT, lines)?;
-    explaining(alloc, command)
+    explaining(alloc, command)?.arg(rank_arg(alloc))
 }
 
 fn show_command<'a>(alloc: Global) -> Result<Command<'a>, AllocError>
@@ -126,7 +126,7 @@ fn import_command<'a>(alloc: Global) -> Result<Command<'a>, AllocError>
 {
     let lines = file_arg(alloc, "lines", "LINES", LINES_HELP);
     let command = to_trace(alloc, "import", IMPORT_ABOUT, IMPORT_LONG_ABOUT, lines)?;
-    command.arg(format_arg(alloc))
+    command.arg(format_arg(alloc))?.arg(rank_arg(alloc))
 }
 
 fn convert_command<'a>(alloc: Global) -> Result<Command<'a>, AllocError>

@@ -37,21 +37,25 @@ pub enum Job<'a> {
         trace: &'a str,
         wanted: Wanted<'a>,
     },
-    /// Judge the history that lines describe and explain its faults. `-` as the lines is standard input.
+    /// Judge the history that lines describe and explain its faults, with the versions of the lines by their ranks or as
+    /// they stand. `-` as the lines is standard input.
     Check {
         lines: &'a str,
+        is_ranked: bool,
         wanted: Wanted<'a>,
     },
     /// Print a trace, one line for each frame. `-` is standard input.
     Show {
         trace: &'a str,
     },
-    /// Import lines as a trace of this format, write it to a file, and print the names of its clients. `-` as the lines
-    /// is standard input, and as the trace standard output.
+    /// Import lines as a trace of this format, with the versions of the lines by their ranks or as they stand, write it
+    /// to a file, and print the names of its clients. `-` as the lines is standard input, and as the trace standard
+    /// output.
     Import {
         lines: &'a str,
         trace: &'a str,
         format: Format,
+        is_ranked: bool,
     },
     /// Write a trace of either format as one of format 2 to a file, and print how many operations it has. `-` as the
     /// trace is standard input, and as the new one standard output.

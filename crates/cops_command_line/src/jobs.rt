@@ -35,6 +35,7 @@ fn job_of<'a>(name: &str, matches: &ArgMatches<'a>) -> Option<Job<'a>>
         }),
         "check" => Some(Job::Check {
             lines: value(matches, "lines")?,
+            is_ranked: is_given(matches, "rank"),
             wanted: wanted(matches)?,
         }),
         "show" => Some(Job::Show {
@@ -44,6 +45,7 @@ fn job_of<'a>(name: &str, matches: &ArgMatches<'a>) -> Option<Job<'a>>
             lines: value(matches, "lines")?,
             trace: value(matches, "trace")?,
             format: format(matches)?,
+            is_ranked: is_given(matches, "rank"),
         }),
         "convert" => Some(Job::Convert {
             trace: value(matches, "trace")?,

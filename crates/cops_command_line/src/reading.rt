@@ -49,9 +49,9 @@ fn no_job(alloc: Global, subcommand: Option<&str>) -> LineFault
 ///
 /// - `audit TRACE`, with `--workers N` or without it, which means 1, or with `--so-far`;
 /// - `explain TRACE` and `check LINES`, with `--all` or `--fault N` or neither, which means the first 20, and with
-///   `--picture FILE` and `--json` or without them;
+///   `--picture FILE` and `--json` or without them; `check` also with `--rank`;
 /// - `show TRACE`; `convert TRACE NEW`; `run SCENARIO TRACE`;
-/// - `import LINES TRACE`, with `--format N`, 1 or 2, or without it, which means 1;
+/// - `import LINES TRACE`, with `--format N`, 1 or 2, or without it, which means 1, and with `--rank` or without it;
 /// - `serve PORT SCENARIO`, with `--sessions N` or without it, which means 1, and with `--idle SECONDS` or without it;
 /// - no words, which means `audit -`.
 ///

@@ -76,6 +76,10 @@ A get that found nothing has the value null, and a version that is null or missi
 there may be deletions, which have no value or null, and gets that found one, with the value null
 and its version. Other members, and lines of blanks, are passed over.
 
+With --rank versions are whole numbers below 2^64, or texts, which are compared by their bytes, or
+lists of such a number and a text, as a timestamp and what breaks ties; all of one kind. The least
+one of the file gets the clock 1, the next the clock 2, and so on.
+
 Prints a line `client N NAME` for each client with its number in the trace, and then
 `imported: N operations, M clients`. The first line that is wrong is answered with one line,
 `faulty: line N: ..`, and an older trace file stays as it was. The lines are read twice: those of
@@ -141,6 +145,9 @@ pub const ALL_HELP: &str = "Explain every fault, not only the first 20; not with
 pub const FAULT_HELP: &str = "Explain only the fault of this number, 1 to 16000000";
 
 pub const JSON_HELP: &str = "Print one JSON object in place of words";
+
+pub const RANK_HELP: &str =
+    "Take versions of any store, and give each its rank among those of the file";
 
 pub const FORMAT_HELP: &str =
     "The format of the trace, 1 or 2; without it 1, which has no deletions";

@@ -1,5 +1,4 @@
 use Rattle.std.proofs.Common.{◌≡◌, Ok}
-use Rattle.cops_types.specs.declared.format.Format.TheVariants.{Two}
 use Rattle.cops_types.specs.Counted.{inner}
 use Rattle.cops_trace.specs.Text.{text}
 use Rattle.cops_import.specs.Lines.{trace_of}
@@ -7,19 +6,17 @@ use Rattle.cops_check.proofs.Checked.{draws_trace, says_trace}
 use Rattle.cops_check.proofs.check.judged.Goals as goal
 
 pub returns-clause-says : goal.returns-clause-says
-returns-clause-says c =
-    let r = c.requires in
-    let bytes_are : (inner c.new.result).now ≡ text (trace_of Two r.given) = rw (c.new.ensures.device, c.as_slice.ensures.value, c.into_inner-text.ensures) r.written in
-    let answer = c.in-Ok.ensures.one (Ok (trace_of Two r.given)) (r.is_trace, bytes_are) in
-    let same : trace_of Two r.given ≡ c.in-Ok.trace = cc in
-    says_trace c.args.bytes.now r.given c.in-Ok.trace c.args.imported.names c.in_ok-naming.naming c.args.request c.in_ok-explanation.field-0.explained.answer
+returns-clause-says c = λ rules r.
+    let bytes_are : (inner c.new.result).now ≡ text (trace_of rules.format r.given) = rw (c.new.ensures.device, c.as_slice.ensures.value, c.into_inner-text.ensures) r.written in
+    let answer = c.in-Ok.ensures.one (Ok (trace_of rules.format r.given)) (r.is_trace, bytes_are) in
+    let same : trace_of rules.format r.given ≡ c.in-Ok.trace = cc in
+    says_trace rules c.args.bytes.now r.given c.in-Ok.trace c.args.imported.names c.in_ok-naming.naming c.args.request c.in_ok-explanation.field-0.explained.answer
     c.in_ok-explanation.field-0.text.items (record { report = r.report; is_trace = r.is_trace }) same r.names_are c.in_ok-naming.ensures c.in_ok-explanation.ensures.reported
 
 pub returns-clause-drawn : goal.returns-clause-drawn
-returns-clause-drawn c = λ is.
-    let r = c.requires in
-    let bytes_are : (inner c.new.result).now ≡ text (trace_of Two r.given) = rw (c.new.ensures.device, c.as_slice.ensures.value, c.into_inner-text.ensures) r.written in
-    let answer = c.in-Ok.ensures.one (Ok (trace_of Two r.given)) (r.is_trace, bytes_are) in
-    let same : trace_of Two r.given ≡ c.in-Ok.trace = cc in
-    draws_trace c.args.bytes.now r.given c.in-Ok.trace c.args.imported.names c.in_ok-naming.naming c.args.request.faults c.in_ok-explanation.field-0.explained.picture
+returns-clause-drawn c = λ is rules r.
+    let bytes_are : (inner c.new.result).now ≡ text (trace_of rules.format r.given) = rw (c.new.ensures.device, c.as_slice.ensures.value, c.into_inner-text.ensures) r.written in
+    let answer = c.in-Ok.ensures.one (Ok (trace_of rules.format r.given)) (r.is_trace, bytes_are) in
+    let same : trace_of rules.format r.given ≡ c.in-Ok.trace = cc in
+    draws_trace rules c.args.bytes.now r.given c.in-Ok.trace c.args.imported.names c.in_ok-naming.naming c.args.request.faults c.in_ok-explanation.field-0.explained.picture
     (record { report = r.report; is_trace = r.is_trace }) same r.names_are c.in_ok-naming.ensures (c.in_ok-explanation.ensures.drawn is)
