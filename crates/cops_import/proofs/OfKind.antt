@@ -1,6 +1,6 @@
 -- Versions of one kind, as lists of keys in their order.
-use Rattle.std.proofs.Common.{◌≡◌, ◌≢◌, ◌<◌, ℕ, List, [], ◌∷◌, length, map, get_or, refl, sym, ap, ◌∙◌, arith, Global}
-use Rattle.std.specs.Prelude.{Option, Some, None, slice_get, String, string_bytes, IsTrue, IfNone, IfSome, ◌↔◌, ◌==◌}
+use Rattle.std.proofs.Common.{◌≡◌, ◌≢◌, ◌<◌, ℕ, List, [], ◌∷◌, length, map, get_or, refl, sym, ap, ◌∙◌, arith}
+use Rattle.std.specs.Prelude.{Option, Some, None, slice_get, IsTrue, IfNone, IfSome, ◌↔◌, ◌==◌}
 use Rattle.std.specs.Cmp.{IsTotalOrder}
 use Rattle.std.specs.Cmp.Lexicographic.{slice_cmp}
 use Rattle.std.specs.List.{AllPairs, Contains, HoldsAt}
@@ -12,6 +12,7 @@ use Rattle.std.proofs.lemmas.Cmp.{tied_itself}
 use Rattle.std.proofs.lemmas.List.{get_or-map, length-map}
 use Rattle.std.proofs.lemmas.Map.Lookups.{exact_bytes, exact_unsigned}
 use Rattle.std.proofs.lemmas.Option.{slice_get-get_or}
+use Rattle.smallvec.specs.SmallVec.{SmallVec}
 use Rattle.cops_import.specs.Stores.{AStoreVersion, number, text, pair, order, stored, IsIncreasing, IsOfKind}
 use Rattle.cops_import.specs.declared.store_version.StoreVersion.{StoreVersion}
 use Rattle.cops_import.specs.declared.store_version.StoreVersion.TheVariants as rust
@@ -93,17 +94,17 @@ other_kind f v (x ∷ xs) count is other = (λ none. absurd (omega (arith, eqb-t
 
 -- ---- the three kinds
 
-abbrev pub text_of : String Global → AStoreVersion
-text_of t = text (string_bytes t)
+abbrev pub text_of : SmallVec ℕ → AStoreVersion
+text_of t = text t.items
 
-abbrev pub pair_of : ℕ × String Global → AStoreVersion
-pair_of p = pair p.0 (string_bytes p.1)
+abbrev pub pair_of : ℕ × SmallVec ℕ → AStoreVersion
+pair_of p = pair p.0 p.1.items
 
 pub exact_numbers : (x y : ℕ) → nat_cmp x y ≡ Equal → number x ≡ number y
 exact_numbers x y e = ap number (exact_unsigned x y e)
 
-pub exact_texts : (x y : String Global) → slice_cmp nat_cmp (string_bytes x) (string_bytes y) ≡ Equal → text_of x ≡ text_of y
-exact_texts x y e = ap text (exact_bytes (string_bytes x) (string_bytes y) e)
+pub exact_texts : (x y : SmallVec ℕ) → slice_cmp nat_cmp x.items y.items ≡ Equal → text_of x ≡ text_of y
+exact_texts x y e = ap text (exact_bytes x.items y.items e)
 
 -- both parts are equal
 both_equal : (a b : Ordering) → ordering_then a b ≡ Equal → (a ≡ Equal) × (b ≡ Equal)
@@ -111,11 +112,11 @@ both_equal Less b e = absurd cc
 both_equal Equal b e = (refl, e)
 both_equal Greater b e = absurd cc
 
-pub exact_pairs : (x y : ℕ × String Global) → ordering_then (nat_cmp x.0 y.0) (slice_cmp nat_cmp (string_bytes x.1) (string_bytes y.1)) ≡ Equal → pair_of x ≡ pair_of y
+pub exact_pairs : (x y : ℕ × SmallVec ℕ) → ordering_then (nat_cmp x.0 y.0) (slice_cmp nat_cmp x.1.items y.1.items) ≡ Equal → pair_of x ≡ pair_of y
 exact_pairs x y e =
-    let parts = both_equal (nat_cmp x.0 y.0) (slice_cmp nat_cmp (string_bytes x.1) (string_bytes y.1)) e in
+    let parts = both_equal (nat_cmp x.0 y.0) (slice_cmp nat_cmp x.1.items y.1.items) e in
     let numbers : x.0 ≡ y.0 = exact_unsigned x.0 y.0 parts.0 in
-    let texts : string_bytes x.1 ≡ string_bytes y.1 = exact_bytes (string_bytes x.1) (string_bytes y.1) parts.1 in
+    let texts : x.1.items ≡ y.1.items = exact_bytes x.1.items y.1.items parts.1 in
     cc
 
 pub not_number : (v : StoreVersion) → ((x : ℕ) → v ≡ rust.Number x → ⊥) → (x : ℕ) → order (number x) (stored v) ≡ None
@@ -123,12 +124,12 @@ not_number (rust.Number n) other x = absurd (other n refl)
 not_number (rust.Text t) other x = refl
 not_number (rust.Pair p) other x = refl
 
-pub not_text : (v : StoreVersion) → ((x : String Global) → v ≡ rust.Text x → ⊥) → (x : String Global) → order (text_of x) (stored v) ≡ None
+pub not_text : (v : StoreVersion) → ((x : SmallVec ℕ) → v ≡ rust.Text x → ⊥) → (x : SmallVec ℕ) → order (text_of x) (stored v) ≡ None
 not_text (rust.Number n) other x = refl
 not_text (rust.Text t) other x = absurd (other t refl)
 not_text (rust.Pair p) other x = refl
 
-pub not_pair : (v : StoreVersion) → ((x : ℕ × String Global) → v ≡ rust.Pair x → ⊥) → (x : ℕ × String Global) → order (pair_of x) (stored v) ≡ None
+pub not_pair : (v : StoreVersion) → ((x : ℕ × SmallVec ℕ) → v ≡ rust.Pair x → ⊥) → (x : ℕ × SmallVec ℕ) → order (pair_of x) (stored v) ≡ None
 not_pair (rust.Number n) other x = refl
 not_pair (rust.Text t) other x = refl
 not_pair (rust.Pair p) other x = absurd (other p refl)

@@ -1,5 +1,5 @@
 -- Versions as other stores have them, their order, and the versions of their ranks.
-use Rattle.std.specs.Prelude.{◌≡◌, ◌≢◌, ◌+◌, ◌<◌, ◌^◌, ◌↔◌, ℕ, List, length, map, Option, None, Some, slice_get, string_bytes}
+use Rattle.std.specs.Prelude.{◌≡◌, ◌≢◌, ◌+◌, ◌<◌, ◌^◌, ◌↔◌, ℕ, List, length, map, Option, None, Some, slice_get}
 use Rattle.std.specs.Cmp.Lexicographic.{slice_cmp}
 use Rattle.std.specs.List.{All, AllPairs}
 use Rattle.std.specs.Ordering.{nat_cmp, ordering_then}
@@ -59,13 +59,13 @@ KeepsOrder all = (a b : AStoreVersion) (v w : ℕ) → IsRankOf all a v → IsRa
 
 abbrev pub stored : StoreVersion → AStoreVersion
 stored (rust.Number n) = number n
-stored (rust.Text bytes) = text (string_bytes bytes)
-stored (rust.Pair p) = pair p.0 (string_bytes p.1)
+stored (rust.Text bytes) = text bytes.items
+stored (rust.Pair p) = pair p.0 p.1.items
 
 abbrev pub all_stored : Keys → List AStoreVersion
 all_stored (keys.Numbers ns) = map number ns.items
-all_stored (keys.Texts texts) = map (λ t. text (string_bytes t)) texts.items
-all_stored (keys.Pairs pairs) = map (λ p. pair p.0 (string_bytes p.1)) pairs.items
+all_stored (keys.Texts texts) = map (λ t. text t.items) texts.items
+all_stored (keys.Pairs pairs) = map (λ p. pair p.0 p.1.items) pairs.items
 
 -- increasing, and few enough to be clocks
 pub record AreRanks (all : List AStoreVersion) : Type 0 where

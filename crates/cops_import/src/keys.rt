@@ -2,16 +2,19 @@
 ghost use Rattle.std.specs.Prelude.{◌≡◌, ◌≢◌, ◌<◌, ℕ, length, IfNone, IfSome};
 ghost use Rattle.std.specs.List.{AllPairs, HoldsAt};
 
-use crate::store_version::StoreVersion;
+use crate::store_version::{StoreVersion, Text};
 use std::alloc::{AllocError, Global};
 use std::cmp::Ordering;
+
+/// A full list of keys grows at least by this many.
+const GROWTH: usize = 1024;
 
 /// Versions of another store, all of one kind.
 #[derive(Debug, Drop)]
 pub(crate) enum Keys {
     Numbers(Vec<u64>),
-    Texts(Vec<String>),
-    Pairs(Vec<(u64, String)>),
+    Texts(Vec<Text>),
+    Pairs(Vec<(u64, Text)>),
 }
 
 impl Keys {
@@ -42,9 +45,9 @@ impl Keys {
     /// Adds a version at the end, if it has the kind of these.
     pub(crate) fn push(&mut self, version: StoreVersion) -> Result<(), AllocError> {
         match (self, version) {
-            (Keys::Numbers(numbers), StoreVersion::Number(number)) => numbers.push(number)?,
-            (Keys::Texts(texts), StoreVersion::Text(text)) => texts.push(text)?,
-            (Keys::Pairs(pairs), StoreVersion::Pair(pair)) => pairs.push(pair)?,
+            (Keys::Numbers(numbers), StoreVersion::Number(number)) => push(numbers, number)?,
+            (Keys::Texts(texts), StoreVersion::Text(text)) => push(texts, text)?,
+            (Keys::Pairs(pairs), StoreVersion::Pair(pair)) => push(pairs, pair)?,
             _ => {}
         }
         Ok(())
@@ -86,6 +89,14 @@ impl Keys {
             _ => None,
         }
     }
+}
+
+/// Adds a key at the end. A full list grows by a quarter.
+fn push<K: Drop>(keys: &mut Vec<K>, key: K) -> Result<(), AllocError> {
+    if keys.len() == keys.capacity() {
+        keys.reserve_exact(keys.len() / 4 + GROWTH)?;
+    }
+    Ok(keys.push(key)?)
 }
 
 /// Sorts keys, and drops all but one of those that are equal.

@@ -2,6 +2,7 @@
 use crate::store_version::StoreVersion;
 use memchr::memmem::Finder;
 use memchr::{memchr, memrchr};
+use smallvec::SmallVec;
 use std::alloc::{AllocError, Global};
 use std::str;
 
@@ -31,10 +32,7 @@ pub(crate) fn seen_name(line: &[u8]) -> Option<&[u8]> {
         return None;
     }
     let value = value_of(line, CLIENT)?;
-    match value.strip_prefix(b"\"") {
-        Some(text) => text.get(..memchr(b'"', text)?),
-        None => seen_number(value),
-    }
+    seen_text(value).or_else(|| seen_number(value))
 }
 
 /// The version in a line in which nothing is escaped: the member `version` occurs once, in the only object, with a
@@ -56,12 +54,12 @@ pub(crate) fn seen_version(alloc: Global, line: &[u8]) -> Result<Seen, AllocErro
         return Ok(Seen::Version(StoreVersion::Number(number)));
     }
     if let Some(text) = seen_text(value) {
-        let text = String::from_str(alloc, text)?;
+        let text = SmallVec::from_slice(alloc, text)?;
         return Ok(Seen::Version(StoreVersion::Text(text)));
     }
     match seen_pair(value) {
         Some((number, text)) => {
-            let text = String::from_str(alloc, text)?;
+            let text = SmallVec::from_slice(alloc, text)?;
             Ok(Seen::Version(StoreVersion::Pair((number, text))))
         }
         None => Ok(Seen::Hidden),
@@ -96,13 +94,13 @@ fn number_of(digits: &[u8]) -> Option<u64> {
 }
 
 /// The text at the front of a value.
-fn seen_text(value: &[u8]) -> Option<&str> {
+fn seen_text(value: &[u8]) -> Option<&[u8]> {
     let text = value.strip_prefix(b"\"")?;
-    str::from_utf8(text.get(..memchr(b'"', text)?)?).ok()
+    text.get(..memchr(b'"', text)?)
 }
 
 /// The number and the text of a list at the front of a value.
-fn seen_pair(value: &[u8]) -> Option<(u64, &str)> {
+fn seen_pair(value: &[u8]) -> Option<(u64, &[u8])> {
     let items = value.strip_prefix(b"[")?.trim_ascii_start();
     let digits = seen_number(items)?;
     let behind = items.get(digits.len()..)?.trim_ascii_start();

@@ -1,18 +1,22 @@
 //! Versions of other stores, which their ranks stand for in a trace.
-ghost use Rattle.std.specs.Prelude.{◌≡◌, ◌≢◌, ℕ, List, Err, IfOk, string_bytes};
+ghost use Rattle.std.specs.Prelude.{◌≡◌, ◌≢◌, ℕ, List, Err, IfOk};
 ghost use Rattle.serde_json.specs.View.{view};
 ghost use Rattle.cops_import.specs.Stores.{AStoreVersion, pair, store_json, stored};
 
 use cops_json::Unread;
 use serde_json::Value as Json;
+use smallvec::SmallVec;
 use std::alloc::Global;
+
+/// The bytes of a text. Those of up to 16 bytes are stored inline.
+pub(crate) type Text = SmallVec<u8, 16>;
 
 /// A version of another store: a whole number below 2^64, a text, or a pair of these.
 #[derive(Debug, Drop)]
 pub(crate) enum StoreVersion {
     Number(u64),
-    Text(String),
-    Pair((u64, String)),
+    Text(Text),
+    Pair((u64, Text)),
 }
 
 /// Reads a JSON value as a version of another store. Errors: `Form` if it is none, `Memory` if memory runs out.
@@ -24,14 +28,15 @@ pub(crate) fn store_version(alloc: Global, json: &Json) -> Result<StoreVersion, 
         return Ok(StoreVersion::Number(number));
     }
     if let Some(text) = json.as_str() {
-        return Ok(StoreVersion::Text(String::from_str(alloc, text)?));
+        let text = SmallVec::from_slice(alloc, text.as_bytes())?;
+        return Ok(StoreVersion::Text(text));
     }
     Ok(StoreVersion::Pair(number_and_text(alloc, json)?))
 }
 
 /// Reads a list of a whole number and a text.
-fn number_and_text(alloc: Global, json: &Json) -> Result<(u64, String), Unread>
-    ensures json { IfOk result (λ p. view json.now ≡ store_json (pair p.0 (string_bytes p.1))) }
+fn number_and_text(alloc: Global, json: &Json) -> Result<(u64, Text), Unread>
+    ensures json { IfOk result (λ p. view json.now ≡ store_json (pair p.0 p.1.items)) }
     ensures none { result ≡ Err Unread.Form → (n : ℕ) (bytes : List ℕ) → view json.now ≢ store_json (pair n bytes) }
 {
     let items = json.as_array().ok_or(Unread::Form)?;
@@ -40,5 +45,5 @@ fn number_and_text(alloc: Global, json: &Json) -> Result<(u64, String), Unread>
     }
     let number = items[0].as_u64().ok_or(Unread::Form)?;
     let text = items[1].as_str().ok_or(Unread::Form)?;
-    Ok((number, String::from_str(alloc, text)?))
+    Ok((number, SmallVec::from_slice(alloc, text.as_bytes())?))
 }

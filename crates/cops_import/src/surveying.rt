@@ -13,6 +13,7 @@ use crate::seen::{Seen, seen_name, seen_version};
 use crate::store_version::StoreVersion;
 use cops_types::{Counted, MAX_CLIENTS};
 use json::{Error, Scratch, Value};
+use smallvec::SmallVec;
 use std::alloc::{AllocError, Global};
 use std::io::Read;
 use std::str;
@@ -178,7 +179,10 @@ fn name_of<'v>(object: &'v Value<'_>) -> Option<&'v str> {
 fn version_in(alloc: Global, object: &Value<'_>) -> Result<Option<StoreVersion>, AllocError> {
     match member(object, "version") {
         Some(Value::Number(digits)) => Ok(digits.parse().ok().map(StoreVersion::Number)),
-        Some(Value::String(text)) => Ok(Some(StoreVersion::Text(String::from_str(alloc, text)?))),
+        Some(Value::String(text)) => {
+            let text = SmallVec::from_slice(alloc, text.as_bytes())?;
+            Ok(Some(StoreVersion::Text(text)))
+        }
         Some(Value::Array(items)) => pair_in(alloc, items),
         _ => Ok(None),
     }
@@ -195,6 +199,6 @@ fn pair_in(alloc: Global, items: &[Value<'_>]) -> Result<Option<StoreVersion>, A
     let Ok(number) = digits.parse() else {
         return Ok(None);
     };
-    let text = String::from_str(alloc, text)?;
+    let text = SmallVec::from_slice(alloc, text.as_bytes())?;
     Ok(Some(StoreVersion::Pair((number, text))))
 }
