@@ -1,5 +1,5 @@
 //! The commands over any readers and writers. The contract of each says what the writers gained.
-ghost use Rattle.std.specs.Prelude.{◌≡◌, ◌≢◌, ◌≤◌, ◌⊎◌, ℕ, true, IfSome, Ok, Err};
+ghost use Rattle.std.specs.Prelude.{◌≡◌, ◌≢◌, ◌≤◌, ◌⊎◌, ℕ, true, IfSome, IsOkAnd, Ok, Err};
 ghost use Rattle.std.specs.Io.KnownBytes.{Appends, Keeps};
 ghost use Rattle.cops_types.specs.declared.limits.TheConstants.{MAX_WORKERS};
 ghost use Rattle.cops_types.specs.Counted.{inner};
@@ -11,24 +11,28 @@ ghost use Rattle.cops_audit_commands.specs.Convert.{converted_line as converted_
 ghost use Rattle.cops_audit_commands.specs.Convergent.{EncodesConvergent};
 ghost use Rattle.cops_audit_commands.specs.Show.{Shows};
 ghost use Rattle.cops_audit_commands.specs.SoFar.{IsSoundSoFar, WritesSoFar};
+ghost use Rattle.cops_check.specs.Check.{DescribesConvergent, WritesChecked};
 ghost use Rattle.cops_scenario.specs.File.{IsNoScenario};
 ghost use Rattle.cops_command.specs.Status.{number, number as status_number};
 ghost use Rattle.cops_command.specs.declared.status.Status.TheVariants.{Accepted, Failed, Faulty, NoMemory, Refused};
 ghost use Rattle.cops_run_command.specs.Running.{EndsWell as HasRun};
-ghost use Rattle.cops.specs.Status.{EndsFaulty, EndsRefused, EndsWell, Explains, HasAnswered, HasConverted, HasServed, Imports, IsFaultyAnswer, IsUnconverted, MayWork, PrintsLine, StopsAtLine, IsNoTraceText, HasOtherFault, IsTraceText, drawn_text};
+ghost use Rattle.cops.specs.Status.{Checks, EndsFaulty, EndsRefused, EndsWell, Explains, HasAnswered, Gains, HasConverted, HasServed, Imports, IsFaultyAnswer, IsSurveyed, IsUnconverted, MayWork, PrintsLine, StopsAtLine, IsNoTraceText, HasOtherFault, IsTraceText, drawn_text, request_of};
 
 use crate::output::Output;
 use cops_audit_commands::{
-    Answer, Explained, StreamFault, audit_so_far, audit_stream, convert_stream, converted_line,
-    explain_stream, show_stream,
+    Answer, Explained, Request, StreamFault, audit_so_far, audit_stream, convert_stream,
+    converted_line, explain_stream, show_stream,
 };
+use cops_check::{CheckFault, check_stream};
 use cops_command::{Status, print};
-use cops_command_line::Job;
-use cops_import::{ImportFault, Imported, JsonLineFault, Unimported, faulty_line, import_stream};
+use cops_command_line::{Job, Wanted};
+use cops_import::{
+    ImportFault, Imported, JsonLineFault, Rules, Surveyed, Unimported, faulty_line, import_stream,
+};
 use cops_run_command::{Streamed, run_stream};
 use cops_serve::serve_stream;
 use cops_trace::{ConvertFault, TraceFault, fault_line};
-use cops_types::{Counted, Memory, OpenGate, Selection, write_text};
+use cops_types::{Counted, Memory, OpenGate, write_text};
 use std::alloc::Global;
 use std::io::{Read, Write};
 use std::net::{Net, TcpListener, TcpStream};
@@ -56,13 +60,12 @@ pub struct Ended<T, W, E> {
     pub outputs: Outputs<T, W, E>,
 }
 
-/// Runs a job over its input. For an import, `clients` is the number of clients that an earlier reading of the input
-/// counted.
+/// Runs a job over its input. For an import, `surveyed` is what a first reading of the input found.
 #[tactic(auto, using(crate::proofs::Kept::explained))]
 pub fn command<R, I, T, W, E>(
     rt: &R,
     job: Job<'_>,
-    clients: u16,
+    surveyed: Surveyed,
     input: &mut Counted<I>,
     outputs: Outputs<T, W, E>,
 ) -> Ended<T, W, E>
@@ -73,6 +76,7 @@ where
     T: Write + Output + Send + Drop,
     W: Write + Drop,
     E: Write + Drop,
+    requires { IsSurveyed job surveyed.versions }
     ensures well { result.status ≡ number Accepted → IfSome (I.remaining (inner input.old)) (λ bytes. EndsWell job.entry bytes
         (T.contents (inner outputs.made)) (T.contents (inner result.outputs.made)) (W.contents (inner outputs.out)) (W.contents (inner result.outputs.out))) }
     ensures refused { result.status ≡ number Refused → IfSome (I.remaining (inner input.old)) (λ bytes. EndsRefused job.entry bytes
@@ -83,13 +87,18 @@ where
     match job {
         Job::Audit { workers, .. } => audit(rt, workers, input, outputs),
         Job::SoFar { .. } => so_far(rt.alloc(), input, outputs),
-        Job::Explain {
-            faults,
-            picture,
+        Job::Explain { wanted, .. } => explain(rt.alloc(), request_of(wanted), input, outputs),
+        Job::Check {
+            is_ranked,
+            wanted,
             ..
-        } => explain(rt.alloc(), faults, picture.is_some(), input, outputs),
+        } => check(rt.alloc(), is_ranked, request_of(wanted), input, outputs),
         Job::Show { .. } => show(rt.alloc(), input, outputs),
-        Job::Import { .. } => import(rt.alloc(), clients, input, outputs),
+        Job::Import { format, .. } => {
+            let Surveyed { clients, versions } = surveyed;
+            let rules = Rules { format, versions };
+            import(rt.alloc(), rules, clients, input, outputs)
+        }
         Job::Convert { .. } => convert(rt.alloc(), input, outputs),
         Job::Run { .. } => run_scenario(rt, input, outputs),
         Job::Serve {
@@ -98,6 +107,17 @@ where
             idle,
             ..
         } => serve(rt, port, sessions, idle, input, outputs),
+    }
+}
+
+/// What the words want of an explanation.
+fn request_of(wanted: Wanted<'_>) -> Request
+    ensures { result ≡ request_of wanted.entry }
+{
+    Request {
+        faults: wanted.faults,
+        is_drawn: wanted.picture.is_some(),
+        is_json: wanted.is_json,
     }
 }
 
@@ -205,8 +225,7 @@ where
 /// asked for. The status is that of an audit, unless the picture could not be written.
 fn explain<I, T, W, E>(
     alloc: Global,
-    faults: Selection,
-    is_drawn: bool,
+    request: Request,
     input: &mut Counted<I>,
     outputs: Outputs<T, W, E>,
 ) -> Ended<T, W, E>
@@ -215,9 +234,9 @@ where
     T: Write + Output,
     W: Write,
     E: Write,
-    ensures accepted { result.status ≡ number Accepted → IfSome (I.remaining (inner input.old)) (λ bytes. EncodesConvergent bytes × Explains is_drawn faults bytes Answer.Accepted
+    ensures accepted { result.status ≡ number Accepted → IfSome (I.remaining (inner input.old)) (λ bytes. EncodesConvergent bytes × Explains request bytes Answer.Accepted
         (T.contents (inner outputs.made)) (T.contents (inner result.outputs.made)) (W.contents (inner outputs.out)) (W.contents (inner result.outputs.out))) }
-    ensures refused { result.status ≡ number Refused → IfSome (I.remaining (inner input.old)) (λ bytes. Explains is_drawn faults bytes Answer.Refused
+    ensures refused { result.status ≡ number Refused → IfSome (I.remaining (inner input.old)) (λ bytes. Explains request bytes Answer.Refused
         (T.contents (inner outputs.made)) (T.contents (inner result.outputs.made)) (W.contents (inner outputs.out)) (W.contents (inner result.outputs.out))) }
     ensures faulty { result.status ≡ number Faulty → IfSome (I.remaining (inner input.old)) IsNoTraceText }
     ensures undrawn { result.status ≡ number Faulty → T.contents (inner result.outputs.made) ≡ T.contents (inner outputs.made) }
@@ -227,8 +246,8 @@ where
         mut out,
         mut errors,
     } = outputs;
-    let explained = explain_stream(alloc, input, &mut out, faults, is_drawn);
-    let status = explained_status(explained, is_drawn, &mut made, &mut errors);
+    let explained = explain_stream(alloc, input, &mut out, request);
+    let status = explained_status(explained, request.is_drawn, &mut made, &mut errors);
     Ended {
         status,
         outputs: Outputs { made, out, errors },
@@ -251,12 +270,88 @@ where
     ensures faulty { result ≡ number Faulty → IsFaultyAnswer explained × (T.contents (inner made.new) ≡ T.contents (inner made.old)) }
 {
     match explained {
-        Ok(Explained { answer, picture }) => match (is_drawn, answer) {
-            (true, Answer::Accepted) => drawn(Answer::Accepted, picture, made, errors),
-            (true, Answer::Refused) => drawn(Answer::Refused, picture, made, errors),
-            _ => answer.status().number(),
-        },
+        Ok(explained) => answered_status(explained, is_drawn, made, errors),
         Err(fault) => audit_status(errors, Err(fault)),
+    }
+}
+
+/// The status of an answer. The picture is written where one is asked for; where the input is faulty there is none.
+fn answered_status<T, E>(
+    explained: Explained,
+    is_drawn: bool,
+    made: &mut Counted<T>,
+    errors: &mut Counted<E>,
+) -> u8
+where
+    T: Write + Output,
+    E: Write,
+    ensures accepted { result ≡ number Accepted → (explained.answer ≡ Answer.Accepted) × Gains is_drawn explained.picture (T.contents (inner made.old)) (T.contents (inner made.new)) }
+    ensures refused { result ≡ number Refused → (explained.answer ≡ Answer.Refused) × Gains is_drawn explained.picture (T.contents (inner made.old)) (T.contents (inner made.new)) }
+    ensures faulty { result ≡ number Faulty → (explained.answer ≡ Answer.Faulty) × (T.contents (inner made.new) ≡ T.contents (inner made.old)) }
+{
+    let Explained { answer, picture } = explained;
+    match (is_drawn, answer) {
+        (true, Answer::Accepted) => drawn(Answer::Accepted, picture, made, errors),
+        (true, Answer::Refused) => drawn(Answer::Refused, picture, made, errors),
+        _ => answer.status().number(),
+    }
+}
+
+/// Explains the faults of the lines of the input that are asked for, and draws the one of them, or the first, where a
+/// picture is asked for. The status is that of an audit, unless the picture could not be written.
+fn check<I, T, W, E>(
+    alloc: Global,
+    is_ranked: bool,
+    request: Request,
+    input: &mut Counted<I>,
+    outputs: Outputs<T, W, E>,
+) -> Ended<T, W, E>
+where
+    I: Read,
+    T: Write + Output,
+    W: Write,
+    E: Write,
+    ensures accepted { result.status ≡ number Accepted → IfSome (I.remaining (inner input.old)) (λ bytes. DescribesConvergent is_ranked bytes × Checks is_ranked request bytes Answer.Accepted
+        (T.contents (inner outputs.made)) (T.contents (inner result.outputs.made)) (W.contents (inner outputs.out)) (W.contents (inner result.outputs.out))) }
+    ensures refused { result.status ≡ number Refused → IfSome (I.remaining (inner input.old)) (λ bytes. Checks is_ranked request bytes Answer.Refused
+        (T.contents (inner outputs.made)) (T.contents (inner result.outputs.made)) (W.contents (inner outputs.out)) (W.contents (inner result.outputs.out))) }
+    ensures faulty { result.status ≡ number Faulty → IfSome (I.remaining (inner input.old)) (λ bytes. WritesChecked is_ranked request bytes Answer.Faulty
+        (W.contents (inner outputs.out)) (W.contents (inner result.outputs.out))) }
+    ensures undrawn { result.status ≡ number Faulty → T.contents (inner result.outputs.made) ≡ T.contents (inner outputs.made) }
+{
+    let Outputs {
+        mut made,
+        mut out,
+        mut errors,
+    } = outputs;
+    let checked = check_stream(alloc, input, &mut out, is_ranked, request);
+    let status = checked_status(checked, request.is_drawn, &mut made, &mut errors);
+    Ended {
+        status,
+        outputs: Outputs { made, out, errors },
+    }
+}
+
+/// The status of a check, as that of an explanation. Where there is no answer, a line reports why.
+fn checked_status<T, E>(
+    checked: Result<Explained, CheckFault>,
+    is_drawn: bool,
+    made: &mut Counted<T>,
+    errors: &mut Counted<E>,
+) -> u8
+where
+    T: Write + Output,
+    E: Write,
+    ensures accepted { result ≡ number Accepted → HasAnswered is_drawn Answer.Accepted checked (T.contents (inner made.old)) (T.contents (inner made.new)) }
+    ensures refused { result ≡ number Refused → HasAnswered is_drawn Answer.Refused checked (T.contents (inner made.old)) (T.contents (inner made.new)) }
+    ensures faulty { result ≡ number Faulty → IsOkAnd checked (λ explained. explained.answer ≡ Answer.Faulty) × (T.contents (inner made.new) ≡ T.contents (inner made.old)) }
+{
+    match checked {
+        Ok(explained) => answered_status(explained, is_drawn, made, errors),
+        Err(CheckFault::Memory) => failed(errors, NO_MEMORY, Status::NoMemory),
+        Err(CheckFault::ReadFailed) => failed(errors, b"failed: read\n", Status::Failed),
+        Err(CheckFault::WriteFailed) => failed(errors, b"failed: write\n", Status::Failed),
+        Err(CheckFault::Changed) => failed(errors, b"failed: changed\n", Status::Failed),
     }
 }
 
@@ -315,11 +410,12 @@ where
     }
 }
 
-/// Imports the lines of the input, in which an earlier reading counted `clients` clients: accepted only for lines that
-/// decode to a trace, whose text was written before it was flushed.
+/// Imports the lines of the input, read by these rules, in which a first reading counted `clients` clients: accepted
+/// only for lines that decode to a trace, whose text was written before it was flushed.
 #[tactic(auto, using(crate::proofs::Kept::imported))]
 fn import<I, T, W, E>(
     alloc: Global,
+    rules: Rules,
     clients: u16,
     input: &mut Counted<I>,
     outputs: Outputs<T, W, E>,
@@ -329,10 +425,10 @@ where
     T: Write + Output + Drop,
     W: Write,
     E: Write,
-    ensures imported { result.status ≡ number Accepted → IfSome (I.remaining (inner input.old)) (λ bytes. Imports bytes
+    ensures imported { result.status ≡ number Accepted → IfSome (I.remaining (inner input.old)) (λ bytes. Imports rules bytes
         (T.contents (inner outputs.made)) (T.contents (inner result.outputs.made)) (W.contents (inner outputs.out)) (W.contents (inner result.outputs.out))) }
     ensures refused { result.status ≢ number Refused }
-    ensures faulty { result.status ≡ number Faulty → IfSome (I.remaining (inner input.old)) (λ bytes. StopsAtLine bytes
+    ensures faulty { result.status ≡ number Faulty → IfSome (I.remaining (inner input.old)) (λ bytes. StopsAtLine rules bytes
         (T.contents (inner outputs.made)) (T.contents (inner result.outputs.made)) (W.contents (inner outputs.out)) (W.contents (inner result.outputs.out))) }
 {
     let Outputs {
@@ -340,7 +436,7 @@ where
         mut out,
         mut errors,
     } = outputs;
-    let (status, made) = match import_stream(alloc, clients, input, made) {
+    let (status, made) = match import_stream(alloc, rules, clients, input, made) {
         Ok(imported) => reported(alloc, imported, &mut out, &mut errors),
         Err(unimported) => {
             let Unimported { fault, writer } = unimported;

@@ -3,7 +3,8 @@
 //! memory, 4 a device's fault.
 #![tactic(auto)]
 
-ghost use Rattle.std.specs.Prelude.{◌≡◌};
+ghost use Rattle.std.specs.Prelude.{◌≡◌, IfOk};
+ghost use Rattle.cops_import.specs.Line.{AreRead};
 ghost use Rattle.cops_command.specs.Status.{number};
 
 mod command;
@@ -19,7 +20,7 @@ use crate::output::{DraftFile, MadeFile, Printed, RecreatedFile};
 use crate::progress::{Cleared, Reading, Watched, begun, remove};
 use cops_command::Status;
 use cops_command_line::{Job, line};
-use cops_import::{ImportFault, count_clients};
+use cops_import::{ImportFault, Surveyed, Versions, survey};
 use cops_types::Counted;
 use std::alloc::AllocError;
 use std::fs::File;
@@ -40,6 +41,12 @@ const LOOKS_LIKE_LINES: &str = "this looks like JSON Lines, which `cops import` 
 
 /// The message where there are no words and standard input is a terminal.
 const WAITS: &str = "waiting for a trace on standard input";
+
+/// What is known of an input of which no lines were surveyed.
+const UNSURVEYED: Surveyed = Surveyed {
+    clients: 0,
+    versions: Versions::Plain,
+};
 
 /// Prints why the program failed, and returns the status.
 fn failed<R: Eprint>(rt: &R, why: &str, status: Status) -> u8
@@ -101,6 +108,7 @@ fn input_of<'a>(job: Job<'a>) -> &'a str {
         Job::Audit { trace, .. } => trace,
         Job::SoFar { trace } => trace,
         Job::Explain { trace, .. } => trace,
+        Job::Check { lines, .. } => lines,
         Job::Show { trace } => trace,
         Job::Import { lines, .. } => lines,
         Job::Convert { trace, .. } => trace,
@@ -112,7 +120,8 @@ fn input_of<'a>(job: Job<'a>) -> &'a str {
 /// The name of what the job makes, if it makes something.
 fn output_of<'a>(job: Job<'a>) -> Option<&'a str> {
     match job {
-        Job::Explain { picture, .. } => picture,
+        Job::Explain { wanted, .. } => wanted.picture,
+        Job::Check { wanted, .. } => wanted.picture,
         Job::Import { trace, .. } => Some(trace),
         Job::Convert { new, .. } => Some(new),
         Job::Run { trace, .. } => Some(trace),
@@ -176,8 +185,8 @@ where
         give_up(rt, target);
         return failed(rt, SAME_FILE, Status::Failed);
     }
-    if let Job::Import { .. } = job {
-        return perform_import(rt, job, source, target, (errors, process));
+    if let Job::Import { is_ranked, .. } = job {
+        return perform_import(rt, (job, is_ranked), source, target, (errors, process));
     }
     match made_at_once(rt, job, target) {
         Ok(made) => perform_over(rt, job, source, made, errors),
@@ -222,10 +231,16 @@ where
         job,
         Job::Audit { .. } | Job::SoFar { .. } | Job::Explain { .. } | Job::Convert { .. }
     );
-    let begun = begun(rt, is_read_whole && errors.is_terminal());
-    let mut input = Counted::new(Watched::new(rt, source, Reading::Trace, begun));
+    let is_check = matches!(job, Job::Check { .. });
+    let reading = if is_check {
+        Reading::Lines("reading")
+    } else {
+        Reading::Trace
+    };
+    let begun = begun(rt, (is_read_whole || is_check) && errors.is_terminal());
+    let mut input = Counted::new(Watched::new(rt, source, reading, begun));
     let outputs = outputs(rt, made, errors, begun);
-    let Ended { status, outputs } = command(rt, job, 0, &mut input, outputs);
+    let Ended { status, outputs } = command(rt, job, UNSURVEYED, &mut input, outputs);
     let Outputs { made, .. } = outputs;
     close_made(rt, output_of(job), made.into_inner());
     let reads_trace = is_read_whole || matches!(job, Job::Show { .. });
@@ -235,10 +250,10 @@ where
     status
 }
 
-/// Runs an import. Its lines are read twice: first to count their clients.
+/// Runs an import, with versions by their ranks or as they stand. Its lines are read twice: first to survey them.
 fn perform_import<R, S, E>(
     rt: &R,
-    job: Job<'_>,
+    (job, is_ranked): (Job<'_>, bool),
     source: Source<S>,
     target: Target<'_>,
     given: (E, u32),
@@ -252,9 +267,9 @@ where
 {
     let (errors, process) = given;
     let begun = begun(rt, errors.is_terminal());
-    let found = match counted_lines(rt, source, begun, process) {
-        Ok((clients, file)) => match drafted(rt, target, process) {
-            Ok(made) => Ok((clients, file, made)),
+    let found = match surveyed_lines(rt, source, is_ranked, (begun, process)) {
+        Ok((surveyed, file)) => match drafted(rt, target, process) {
+            Ok(made) => Ok((surveyed, file, made)),
             Err(why) => Err(why),
         },
         Err(why) => {
@@ -262,7 +277,7 @@ where
             Err(why)
         }
     };
-    let (clients, file, made) = match found {
+    let (surveyed, file, made) = match found {
         Ok(found) => found,
         Err(why) => {
             remove(rt, begun);
@@ -271,22 +286,23 @@ where
     };
     let mut input = Counted::new(Watched::new(rt, file, Reading::Lines("importing"), begun));
     let outputs = outputs(rt, made, errors, begun);
-    let Ended { status, outputs } = command(rt, job, clients, &mut input, outputs);
+    let Ended { status, outputs } = command(rt, job, surveyed, &mut input, outputs);
     let Outputs { made, .. } = outputs;
     close_made(rt, output_of(job), made.into_inner());
     status
 }
 
-/// The number of clients that the lines name, and the lines as a file that is at its beginning again.
-fn counted_lines<R, S>(
+/// What a survey of the lines finds, and the lines as a file that is at its beginning again.
+fn surveyed_lines<R, S>(
     rt: &R,
     source: Source<S>,
-    begun: Option<Instant>,
-    process: u32,
-) -> Result<(u16, File), NoLines>
+    is_ranked: bool,
+    (begun, process): (Option<Instant>, u32),
+) -> Result<(Surveyed, File), NoLines>
 where
     R: Files<File = File> + Eprint + AllocGlobal + Env + Clock,
     S: Read + Drop,
+    ensures { IfOk result (λ found. AreRead is_ranked found.0.versions) }
 {
     let file = match source {
         Source::File(file) if is_plain(&file) => file,
@@ -296,14 +312,14 @@ where
         }
     };
     let mut file = Counted::new(Watched::new(rt, file, Reading::Lines("counting"), begun));
-    let clients = match count_clients(rt.alloc(), &mut file) {
-        Ok(clients) => clients,
+    let surveyed = match survey(rt.alloc(), is_ranked, &mut file) {
+        Ok(surveyed) => surveyed,
         Err(ImportFault::Memory) => return Err(NoLines::Memory),
         Err(ImportFault::Endless) => return Err(NoLines::Endless),
         Err(_) => return Err(NoLines::Read),
     };
     let file = rewound(file.into_inner().into_inner())?;
-    Ok((clients, file))
+    Ok((surveyed, file))
 }
 
 /// The writer for the trace of an import. A file gets the trace only when it is whole.
