@@ -450,7 +450,8 @@ class Recording:
         number = self.names.index(client)
         name = number, sum(it[0] == number for it in self.history)
         self.history[name] = operation
-        of = {"client": int(client) if client == "7" and pick.random() < 0.5 else client, {"put": "put", "del": "del"}.get(operation.kind, "get"): operation.key}
+        asked = operation.kind if operation.kind in plain.PUTS else "get"
+        of = {"client": int(client) if client == "7" and pick.random() < 0.5 else client, asked: operation.key}
         if operation.kind != "del" or pick.random() < 0.5:
             of["value"] = operation.value
         if operation.version:
