@@ -261,6 +261,8 @@ def by_hand():
     check("check of stale.jsonl, by file", cops("check", path), (1, STALE.encode(), b""))
     check("check of stale.jsonl, by standard input", cops("check", "-", stdin=data), (1, STALE.encode(), b""))
     check("check of stale.jsonl, a byte at a time", by_stalling_pipe(["check", "-"], [bytes([byte]) for byte in data]), (1, STALE.encode(), b""))
+    with open(os.path.join(ROOT, "README.md"), encoding="utf-8") as file:
+        check("README.md has this check", f"$ ./cops check examples/stale.jsonl\n{STALE}```" in file.read(), True)
     in_trace = cops("explain", os.path.join(ROOT, "examples", "stale.trace"))[1].decode()
     check("the explanation of its trace", in_trace.split("\n")[1:3], ["", "fault 1: stale (1,1)"])
     for name, lines, words, text in BY_HAND:
@@ -321,6 +323,28 @@ def many():
     of = json.loads(cops("check", "-", "--json", "--fault", "2", stdin=puts)[1])["explained"]
     check("23 puts of a version", [(it["number"], len(it["puts"]), it["more_puts"]) for it in of], [(2, 20, 2)])
     check("the first of them", [it["name"] for it in of[0]["puts"]], ["client 0", *(f"client {n}" for n in range(2, 21))])
+
+
+def large():
+    """Many lines of many clients, with blank lines between them: the one get without a source is named by its line, and by its index."""
+    pick, lines, indices = random.Random(1), [], Counter()
+    for clock in range(1, 30_001):
+        client = f"client {pick.randrange(300)}"
+        lines += [""] * pick.choice((0, 0, 0, 1, 2))
+        if clock == 29_000:
+            named = client, indices[client], len(lines) + 1
+            lines.append(json.dumps(got(client, "x", "1", "99999.1")))
+        else:
+            lines.append(json.dumps(put(client, f"k{clock % 1_000}", "v" * pick.randrange(40), clock)))
+        indices[client] += 1
+    data, (client, index, number) = "\n".join(lines).encode(), named
+    text = cops("check", "-", stdin=data)[1].decode().split("\n")
+    called = f"{client}, line {number}"
+    wanted = ["refused: 30000 operations, 29999 puts, 1 fault", "", f"fault 1: no source {called}", f"{called}: got x=1 at 99999.1"]
+    check("check of many lines", text[:4], wanted)
+    of = json.loads(cops("check", "-", "--json", stdin=data)[1])["explained"]
+    check("JSON of many lines", [(it["name"], it["index"], it["line"]) for it in of], [(client, index, number)])
+    check("many lines and a wrong one", cops("check", "-", stdin=data + b"\n\n{")[1], f"faulty: line {len(lines) + 2}: no JSON\n".encode())
 
 
 STALE_JSON = {
@@ -706,6 +730,8 @@ def devices():
     for words in (["check", path], ["check", path, "--json"], ["check", path, "--all"], ["explain", os.path.join(ROOT, "examples", "stale.trace"), "--json"]):
         with open("/dev/full", "wb") as full:
             check(f"{words} to a full device", cops(*words, stdout=full), (4, None, b"failed: write\n"))
+    no_copy = subprocess.run([BUILT, "check", "-"], input=example("stale.jsonl"), capture_output=True, env={"TMPDIR": "/nothing/there"})
+    check("a check needs no temporary file", (no_copy.returncode, no_copy.stdout, no_copy.stderr), (1, STALE.encode(), b""))
     with tempfile.TemporaryDirectory() as folder:
         same, other = os.path.join(folder, "same"), os.path.join(folder, "other")
         with open(same, "wb") as file:
@@ -743,6 +769,7 @@ def checks():
     by_hand()
     in_traces()
     many()
+    large()
     as_json()
     wrong_lines()
     fits_schema(random_lines())
