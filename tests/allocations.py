@@ -16,6 +16,9 @@ import sys
 import tempfile
 import typing
 
+sys.dont_write_bytecode = True
+from checks import STALE, STALE_JSON, json_line  # noqa: E402
+
 ROOT = os.path.dirname(os.path.dirname(os.path.abspath(__file__)))
 VECTORS = os.path.join(ROOT, "crates", "cops_vectors")
 SECONDS = 60
@@ -65,7 +68,10 @@ def cases():
         Case("audit by two workers", [program, "audit", example("stale.trace"), "--workers", "2"], (1, report)),
         Case("audit so far", [program, "audit", example("stale.trace"), "--so-far"], (1, report)),
         Case("explain", [program, "explain", example("stale.trace"), "--picture", os.devnull], (1, explained)),
+        Case("check", [program, "check", example("stale.jsonl"), "--picture", os.devnull], (1, STALE.encode())),
+        Case("check, as JSON", [program, "check", example("stale.jsonl"), "--json"], (1, json_line(STALE_JSON))),
         Case("import", [program, "import", example("put_and_get.jsonl"), os.devnull], (0, imported)),
+        Case("import to format 2", [program, "import", "--format", "2", example("put_and_get.jsonl"), os.devnull], (0, imported)),
         # Standard input has no lines.
         Case("import of standard input", [program, "import", "-", os.devnull], (0, b"imported: 0 operations, 0 clients\n")),
         # An operation is tried once more, so that both clients are done whichever of their allocations fails.

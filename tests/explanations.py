@@ -10,7 +10,7 @@ import sys
 import tempfile
 
 sys.dont_write_bytecode = True
-from traces import check, cops, ended, example, trace  # noqa: E402
+from traces import ROOT, check, cops, ended, example, trace  # noqa: E402
 
 NOT_LOOKED_FOR = {
     "doubled": "not looked for while duplicate versions remain: reads without a source, puts out of order, stale reads",
@@ -180,6 +180,14 @@ def counts():
     check("no such fault", explained(lines_of(many), "--fault", "23")[1], ["refused: 23 operations, 1 put, 22 faults", "", "there is no fault 23", ""])
 
 
+def documented():
+    """docs/REPORTS.md has the whole explanation of a get without a source."""
+    with open(os.path.join(ROOT, "docs", "REPORTS.md"), encoding="utf-8") as page:
+        shown = re.search(r"^\$ \./cops explain examples/no_source\.trace\n(.*?)^```$", page.read(), re.DOTALL | re.MULTILINE)
+    answer = cops("explain", os.path.join(ROOT, "examples", "no_source.trace"))
+    check("the explanation in docs/REPORTS.md", answer, (1, shown[1].encode() if shown else None, b""))
+
+
 def sentences():
     """The sentence of a picture about a stale get."""
     for name, sentence in (
@@ -198,5 +206,6 @@ if __name__ == "__main__":
     generated_places()
     later_classes()
     counts()
+    documented()
     sentences()
     sys.exit(ended())

@@ -9,11 +9,11 @@ import struct
 import subprocess
 import tempfile
 
-from traces import BUILT, ROOT, check, cops, example
-from write_trace import TRACE_END, TRACE_GOT, TRACE_HEAD, TRACE_MISSED, TRACE_PUT, frame
+from traces import BUILT, LIMITS, ROOT, check, cops, example, trace as trace_of
+from write_trace import TRACE_DEL, TRACE_END, TRACE_GONE, TRACE_GOT, TRACE_HEAD, TRACE_MISSED, TRACE_PUT, frame
 
 MAX_CLIENTS, MAX_CLIENT_OPS = 65_535, 1_000_000
-MAX_KEY, MAX_VALUE, MAX_CLOCK, MAX_NODE, MAX_DEPTH = 64, 4_096, 2**48 - 1, 1_023, 127
+MAX_KEY, MAX_CLOCK, MAX_NODE, MAX_DEPTH = 64, 2**48 - 1, 1_023, 127
 BLANK = b" \t\r"
 WHOLE = re.compile(r"0|[1-9][0-9]*")
 VERSION = re.compile(r"(0|[1-9][0-9]*)\.(0|[1-9][0-9]*)", re.ASCII)
@@ -21,7 +21,10 @@ PLAIN = b"ABCDEFGHIJKLMNOPQRSTUVWXYZabcdefghijklmnopqrstuvwxyz0123456789-._"
 
 FIRST = b'{"client":1,"get":"k","value":null}\n'
 
-# Lines, and the fault of the last one.
+# What a member that is absent is compared with.
+ABSENT = object()
+
+# Lines, and the fault of the last one in both formats.
 WRONG = [
     (b"x", "no JSON"),
     (b"\n\n\xff\n", "no JSON"),
@@ -39,7 +42,14 @@ WRONG = [
     (b'{"client":18446744073709551616,"get":"k"}', "no client"),
     (b'{"client":null,"get":"k"}', "no client"),
     (b'{"client":1,"version":3}', "no operation"),
+    (b'{"client":1,"delete":"k","version":3}', "no operation"),
     (b'{"client":1,"put":null,"get":"x"}', "both operations"),
+    (b'{"client":1,"put":"x","del":"x"}', "both operations"),
+    (b'{"client":1,"del":null,"get":null}', "both operations"),
+    (b'{"client":1,"put":"x","get":"x","del":"x"}', "both operations"),
+    (b'{"client":1,"del":""}', "bad key"),
+    (b'{"client":1,"del":["k"],"version":1}', "bad key"),
+    (b'{"client":1,"del":"' + b"k" * 65 + b'","version":1}', "bad key"),
     (b'{"client":1,"get":""}', "bad key"),
     (b'{"client":1,"get":null}', "bad key"),
     (b'{"client":1,"get":1}', "bad key"),
@@ -49,10 +59,19 @@ WRONG = [
     (b'{"client":1,"put":"k"}', "bad value"),
     (b'{"client":1,"get":"k"}', "bad value"),
     (b'{"client":1,"get":"k","version":null}', "bad value"),
-    (b'{"client":1,"get":"k","value":null,"version":1}', "bad value"),
-    (b'{"client":1,"put":"k","value":"' + b"v" * 4097 + b'","version":1}', "bad value"),
+    (b'{"client":1,"get":"k","version":1}', "bad value"),
+    (b'{"client":1,"put":"k","value":null,"version":1}', "bad value"),
+    (b'{"client":1,"del":"k","value":"","version":1}', "bad value"),
+    (b'{"client":1,"del":"k","value":"1","version":0}', "bad value"),
+    (b'{"client":1,"del":"k","value":false,"version":1}', "bad value"),
+    (b'{"client":1,"put":"k","value":"' + b"v" * 16_385 + b'","version":1}', "bad value"),
     (b'{"client":1,"get":"k","value":""}', "bad version"),
     (b'{"client":1,"get":"k","value":"","version":null}', "bad version"),
+    (b'{"client":1,"get":"k","value":null,"version":false}', "bad version"),
+    (b'{"client":1,"get":"k","value":null,"version":0}', "bad version"),
+    (b'{"client":1,"del":"k"}', "bad version"),
+    (b'{"client":1,"del":"k","value":null,"version":null}', "bad version"),
+    (b'{"client":1,"del":"k","version":"1.1024"}', "bad version"),
     *[
         (b'{"client":1,"put":"k","value":"","version":' + version + b"}", "bad version")
         for version in (
@@ -60,6 +79,15 @@ WRONG = [
             b"[1]", b"[1,1024]", b"[0,1]", b"[1,0,0]", b"[1.0,0]", b'["1",0]', b"{}", b"true",
         )
     ],
+]
+
+# Lines that are right in format 2 alone, and what is wrong with them in format 1.
+OF_FORMAT_2 = [
+    (b'{"client":1,"del":"k","version":1}', "needs format 2"),
+    (b'{"client":1,"del":"k","value":null,"version":"1.0"}', "needs format 2"),
+    (b'{"client":1,"get":"k","value":null,"version":[1,0]}', "needs format 2"),
+    (b'{"client":1,"put":"k","value":"' + b"v" * 4_097 + b'","version":1}', "bad value"),
+    (b'{"client":1,"get":"k","value":"' + b"v" * 16_384 + b'","version":1}', "bad value"),
 ]
 
 
@@ -130,45 +158,60 @@ def version_of(of):
     return struct.pack(">Q", clock * 65536 + node)
 
 
-def record_of(line):
-    """What a line says: the name of the client, the kind of the record, and the bytes of its key, value and version."""
+def content_of(of, asked, number):
+    """What an operation put or got, as a record's value: none for a deletion and for a get that found one."""
+    given = of.get("value", ABSENT)
+    if asked == "del":
+        if given is not ABSENT and given is not None:
+            raise Wrong("bad value")
+        return b""
+    if asked == "get" and given is None and of.get("version") is not None:
+        return b""
+    value = text(of.get("value"), "bad value", 0, LIMITS[number].value)
+    return struct.pack(">H", len(value)) + value
+
+
+def record_of(line, number):
+    """What a line says in a format: the name of the client, the kind of the record, and the bytes of its key, value and version."""
     of = json_of(line)
     name = name_of(of)
-    if "put" not in of and "get" not in of:
-        raise Wrong("no operation")
-    if "put" in of and "get" in of:
-        raise Wrong("both operations")
-    key = text(of.get("put", of.get("get")), "bad key", 1, MAX_KEY)
+    asked = [word for word in ("put", "get", "del") if word in of]
+    if len(asked) != 1:
+        raise Wrong("both operations" if asked else "no operation")
+    key = text(of[asked[0]], "bad key", 1, MAX_KEY)
     key = struct.pack(">B", len(key)) + key
-    if "get" in of and of.get("value", 0) is None and of.get("version") is None:
+    if asked[0] == "get" and of.get("value", ABSENT) is None and of.get("version") is None:
         return name, TRACE_MISSED, key
-    value = text(of.get("value"), "bad value", 0, MAX_VALUE)
-    value = struct.pack(">H", len(value)) + value
-    return name, TRACE_PUT if "put" in of else TRACE_GOT, key + value + version_of(of.get("version"))
+    value = content_of(of, asked[0], number)
+    version = version_of(of.get("version"))
+    if not value and number == 1:
+        raise Wrong("needs format 2")
+    kinds = (TRACE_PUT, TRACE_DEL) if asked[0] != "get" else (TRACE_GOT, TRACE_GONE)
+    return name, kinds[not value], key + value + version
 
 
 def escaped(name):
     return "".join(chr(byte) if byte in PLAIN else f"%{byte:02x}" for byte in name.encode())
 
 
-def plain_import(data):
-    """The expected result of an import of these lines: its status, its output, and the trace, or None."""
+def plain_import(data, number=1):
+    """The expected result of an import of these lines to a format: its status, its output, and the trace, or None."""
     indices, records = {}, []
-    for number, line in enumerate(data.split(b"\n"), 1):
+    for at, line in enumerate(data.split(b"\n"), 1):
         if not line.strip(BLANK):
             continue
         try:
-            name, kind, fields = record_of(line)
+            name, kind, fields = record_of(line, number)
             if name not in indices and len(indices) == MAX_CLIENTS:
                 raise Wrong("too many clients")
             client, index = indices.get(name, (len(indices), 0))
             if index == MAX_CLIENT_OPS:
                 raise Wrong("too many operations")
         except Wrong as fault:
-            return 2, f"faulty: line {number}: {fault}\n".encode(), None
+            return 2, f"faulty: line {at}: {fault}\n".encode(), None
         indices[name] = client, index + 1
         records.append(frame(kind, struct.pack(">HI", client, index) + fields))
-    trace = [frame(TRACE_HEAD, struct.pack(">HH", 1, len(indices))), *records, frame(TRACE_END, struct.pack(">I", len(records)))]
+    trace = [frame(TRACE_HEAD, struct.pack(">HH", number, len(indices))), *records, frame(TRACE_END, struct.pack(">I", len(records)))]
     lines = [f"client {client} {escaped(name)}\n" for name, (client, _) in indices.items()]
     lines.append(f"imported: {len(records)} operations, {len(indices)} clients\n")
     return 0, "".join(lines).encode(), b"".join(trace)
@@ -188,28 +231,33 @@ def read_if_there(path):
     return read(path) if os.path.exists(path) else None
 
 
-def imported(data):
+def imported(data, *words):
     """The answer of `cops import` for these lines, and the trace that it writes: by files, and by standard input and output. If a line is wrong, a prefix of
     the trace goes to standard output, and there is no file."""
     with tempfile.TemporaryDirectory() as folder:
         lines, trace = os.path.join(folder, "lines"), os.path.join(folder, "trace")
         write(lines, data)
-        status, out, errors = cops("import", lines, trace)
+        status, out, errors = cops("import", *words, lines, trace)
         written = read_if_there(trace)
-        from_input = cops("import", "-", trace, stdin=data)
+        from_input = cops("import", *words, "-", trace, stdin=data)
         also_written = read_if_there(trace)
-        to_output = cops("import", lines, "-")
-        both = cops("import", "-", "-", stdin=data)
+        to_output = cops("import", lines, "-", *words)
+        both = cops("import", "-", "-", *words, stdin=data)
     trace = to_output[1]
     same = from_input == (status, out, errors) and also_written == written and to_output == both == (status, trace, out + errors)
     is_whole = written == (trace if status == 0 else None)
     return (status, out, errors, trace) if same and is_whole else ("the four ways differ", from_input, to_output, both, written, also_written)
 
 
-def as_plain(name, data):
-    """The import gives the answer of the plain importer. If a line is wrong, it has written some records before that line, and no end."""
-    status, out, trace = plain_import(data)
-    got = imported(data)
+def words_of(number):
+    """The words that ask for a format: none for format 1."""
+    return ("--format", "2") if number == 2 else ()
+
+
+def as_plain(name, data, number=1):
+    """The import to a format gives the answer of the plain importer. If a line is wrong, it has written some records before that line, and no end."""
+    status, out, trace = plain_import(data, number)
+    got = imported(data, *words_of(number))
     check(name, got if trace is not None else got[:3], (status, out, b"") if trace is None else (status, out, b"", trace))
     if trace is None and isinstance(got[3], bytes):
         cut = f"faulty: cut at {whole_frames(got[3])}\n".encode()
@@ -246,12 +294,66 @@ def worked():
 
 def wrong_lines():
     """The first wrong line is reported, and no whole trace is written."""
-    for last, words in WRONG:
-        number = last.rstrip(b"\n").count(b"\n") + 1
-        check(f"the plain importer of {last[:60]}", plain_import(last)[:2], (2, f"faulty: line {number}: {words}\n".encode()))
-        as_plain(f"import of {last[:60]}", last)
-        later = FIRST + b"\r\n" + last + b"\n" + b"also wrong"
-        check(f"import of {last[:60]}, later", imported(later)[:3], (2, f"faulty: line {number + 2}: {words}\n".encode(), b""))
+    for number, wrong in ((1, WRONG + OF_FORMAT_2), (2, WRONG)):
+        for last, words in wrong:
+            at, name = last.rstrip(b"\n").count(b"\n") + 1, f"{last[:60]} to format {number}"
+            check(f"the plain importer of {name}", plain_import(last, number)[:2], (2, f"faulty: line {at}: {words}\n".encode()))
+            as_plain(f"import of {name}", last, number)
+            later = FIRST + b"\r\n" + last + b"\n" + b"also wrong"
+            wanted = 2, f"faulty: line {at + 2}: {words}\n".encode(), b""
+            check(f"import of {name}, later", imported(later, *words_of(number))[:3], wanted)
+
+
+# Lines of format 2, and the operations of their trace.
+DELETIONS = [
+    (b'{"client":1,"del":"k","version":1}', "0 del k 1.0"),
+    (b'{"client":1,"del":"k","value":null,"version":"77.64"}', "0 del k 77.64"),
+    (b'{"version":[2,1023],"value":null,"del":"\\u006b","client":"1","at":0}\r', "0 del k 2.1023"),
+    (b'{"client":1,"del":"k","value":"x","value":null,"version":1}', "0 del k 1.0"),
+    (b'{"client":1,"get":"k","value":null,"version":1}', "0 gone k 1.0"),
+    (b'{"client":1,"get":"k","value":null,"version":[281474976710655,0]}', "0 gone k 281474976710655.0"),
+    (b'{"client":1,"get":"k","value":null,"version":null}', "0 missed k"),
+    (b'{"client":1,"get":"k","value":null}', "0 missed k"),
+    (b'{"client":1,"put":"k","value":"","version":1}', "0 put k  1.0"),
+    (b'{"client":1,"get":"k","value":"null","version":1}', "0 got k null 1.0"),
+]
+
+
+def deletions():
+    """Deletions, and gets that found one, have their own records, which differ from those of an empty value and of a get that found nothing."""
+    wanted = b"client 0 1\nimported: 1 operations, 1 clients\n"
+    for line, operation in DELETIONS:
+        # An empty value is two spaces, between which there is no word.
+        expected = trace_of(["clients 1 format 2", operation]) if "  " not in operation else plain_import(line, 2)[2]
+        check(f"import of {line} to format 2", imported(line, "--format", "2"), (0, wanted, b"", expected))
+        as_plain(f"import of {line} to format 2, by the plain importer", line, 2)
+    lines = b"\n".join(line for line, _ in OF_FORMAT_2)
+    counts = b"client 0 1\nimported: 5 operations, 1 clients\n"
+    check("lines that only format 2 has", imported(lines, "--format", "2")[:3], (0, counts, b""))
+    session = b'''{"client":"a","put":"x","value":"1","version":1}
+{"client":"a","del":"x","version":2}
+{"client":"b","get":"x","value":null,"version":2}
+{"client":"b","get":"x","value":"1","version":1}
+'''
+    status, out, errors, trace = imported(session, "--format", "2")
+    check("import of a stale get behind a deletion", (status, out, errors), (0, b"client 0 a\nclient 1 b\nimported: 4 operations, 2 clients\n", b""))
+    report = b"refused: 4 operations, 2 puts, 1 faults\nstale (1,1) returned 1.0, newer (0,1) at 2.0, chain (0,1) (1,0) (1,1)\n"
+    check("its audit", cops("audit", "-", stdin=trace), (1, report, b""))
+    answer = 2, b"faulty: line 2: needs format 2\n", b""
+    check("the lines in format 1", imported(session)[:3], answer)
+    check("the lines in format 1 by its name", imported(session, "--format", "1")[:3], answer)
+
+
+def formats():
+    """Format 1 is that of an import without words. Lines that are right in format 1 have the same operations in format 2. There is no other format."""
+    lines = example("stale.jsonl")
+    check("an import to format 1 by its name", imported(lines, "--format", "1"), imported(lines))
+    check("an import of stale.jsonl", imported(lines)[3], example("stale.trace"))
+    in_format_2 = trace_of(example("stale.ops").decode().replace("clients 2", "clients 2 format 2").split("\n"))
+    check("an import of stale.jsonl to format 2", imported(lines, "--format=2"), (*imported(lines)[:3], in_format_2))
+    for words in (["--format", "0"], ["--format", "3"], ["--format", "x"], ["--format"], ["--format", "1", "--format", "2"], ["--format", "01x"]):
+        status, out, errors = cops("import", os.path.join(ROOT, "examples", "stale.jsonl"), os.devnull, *words)
+        check(f"usage of {words}", (status, out, errors != b""), (2, b"", True))
 
 
 def replaced():
@@ -329,7 +431,7 @@ def devices():
         status, out, errors = cops(*words)
         check(f"usage of {words}", (status, out, errors != b""), (2, b"", True))
     status, out, errors = cops("import", "--help")
-    check("help of import", (status, b"Usage: cops import <LINES> <TRACE>" in out, errors), (0, True, b""))
+    check("help of import", (status, b"Usage: cops import [OPTIONS] <LINES> <TRACE>" in out, b"--format <N>" in out, errors), (0, True, True, b""))
 
 
 def copies(folder, path, lines):
@@ -358,17 +460,17 @@ def short_files():
     resource.setrlimit(resource.RLIMIT_FSIZE, (10, 10))
 
 
-def generated(seed):
-    """Random lines, some of them wrong."""
+def generated(seed, number=1):
+    """Random lines of a format, some of them wrong."""
     pick = random.Random(seed)
     names = [1, 7, "7", "b", "a b", "ü", "", 2**64 - 1, "client"]
-    keys, values = ["x", "y", "k" * 64, "ü", " "], ["", "1", "v" * 4096, "a\nb", "\u0000", "ü"]
+    keys, values = ["x", "y", "k" * 64, "ü", " "], ["", "1", "v" * LIMITS[number].value, "a\nb", "\u0000", "ü"]
 
     def version():
         clock, node = pick.choice((1, 2, 77, 2**48 - 1)), pick.choice((0, 1, 64, 1023))
         return pick.choice((f"{clock}.{node}", [clock, node], clock))
 
-    def line():
+    def operation():
         of = {"client": pick.choice(names), pick.choice(("put", "get")): pick.choice(keys)}
         if "put" in of or pick.random() < 0.7:
             of.update(value=pick.choice(values), version=version())
@@ -378,10 +480,21 @@ def generated(seed):
                 of.update(version=None)
             if pick.random() < 0.01:
                 del of["value"]
+        # Format 1 has such operations rarely, since they are wrong there.
+        if pick.random() < (0.3 if number == 2 else 0.005):
+            of.update(value=None, version=version())
+            if "put" in of:
+                of["del"] = of.pop("put")
+                if pick.random() < 0.5:
+                    del of["value"]
+        return of
+
+    def line():
+        of = operation()
         if pick.random() < 0.2:
             of[pick.choice(("at", "time", ""))] = pick.choice((1.5, None, [], {"put": 1}))
         if pick.random() < 0.02:
-            of[pick.choice(("client", "put", "get", "value", "version"))] = pick.choice((None, 1, "x", [1, 2], {}, "", "1.0"))
+            of[pick.choice(("client", "put", "get", "del", "value", "version"))] = pick.choice((None, 1, "x", [1, 2], {}, "", "1.0"))
         if pick.random() < 0.01:
             return json.dumps(of)[: pick.randrange(10)]
         text = json.dumps(of, ensure_ascii=pick.random() < 0.5, separators=pick.choice(((",", ":"), (" , ", " : "))))
@@ -394,8 +507,11 @@ def generated(seed):
 def imports():
     worked()
     wrong_lines()
+    deletions()
+    formats()
     replaced()
     limits()
     devices()
-    for seed in range(150):
-        as_plain(f"generated lines {seed}", generated(seed))
+    for seed in range(300):
+        number = 1 + seed % 2
+        as_plain(f"generated lines of format {number}, {seed}", generated(seed, number), number)

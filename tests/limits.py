@@ -5,7 +5,7 @@ import struct
 from traces import LIMITS, audited, check, cops, del_after, events, outcomes_of, pairs_of, put_after, ran, scripted, trace
 from client import BYE, BYE_OK, GET, GOT, HELLO, HELLO_OK, PUT, PUT_DONE, REFUSED
 from conversions import converted, in_format_2
-from imports import imported
+from imports import imported, words_of
 from sessions import PATIENCE, Server, one_client
 from write_trace import TRACE_END, TRACE_HEAD, frame, key, value, version
 
@@ -95,20 +95,24 @@ def values_of_scenarios():
 
 
 def values_of_imports():
-    """An import writes format 1, whose limit holds for the values of puts and of gets."""
+    """The limit of the format that an import writes holds for the values of puts and of gets. A check has that of format 2."""
     expected = b"client 0 1\nclient 1 2\nimported: 2 operations, 2 clients\n"
 
     def lines(put, got):
         of_put, of_get = {"client": 1, "put": "x", "value": put, "version": 1}, {"client": 2, "get": "x", "value": got, "version": 1}
         return f"{json.dumps(of_put)}\n{json.dumps(of_get)}\n".encode()
 
-    for text, fits in ((text, fits) for number, text, fits in each_value() if number == 1):
-        name = name_of(1, text)
+    for number, text, fits in each_value():
+        name, words, given = name_of(number, text), words_of(number), [lines(text, text), lines("v", text)]
+        wrong = [(2, f"faulty: line {at}: bad value\n".encode(), b"") for at in (1, 2)]
         if fits:
-            check(f"an import with {name}", imported(lines(text, text)), (0, expected, b"", put_and_got(1, text, text)))
+            check(f"an import with {name}", imported(given[0], *words), (0, expected, b"", put_and_got(number, text, text)))
         else:
-            check(f"an import with {name}", imported(lines(text, text))[:3], (2, b"faulty: line 1: bad value\n", b""))
-            check(f"an import of a get of {name}", imported(lines("v", text))[:3], (2, b"faulty: line 2: bad value\n", b""))
+            check(f"an import with {name}", imported(given[0], *words)[:3], wrong[0])
+            check(f"an import of a get of {name}", imported(given[1], *words)[:3], wrong[1])
+        if number == 2:
+            wanted = [(0, ACCEPTED.encode(), b"")] if fits else wrong
+            check(f"a check of {name}", [cops("check", "-", stdin=it) for it in given[: len(wanted)]], wanted)
 
 
 def values_of_conversions():

@@ -15,6 +15,7 @@ sys.dont_write_bytecode = True
 import plain  # noqa: E402
 import plain_cluster  # noqa: E402
 import plain_reader  # noqa: E402
+from checks import checks  # noqa: E402
 from conversions import conversions  # noqa: E402
 from deletions import deletions  # noqa: E402
 from cut_traces import cut_traces  # noqa: E402
@@ -404,6 +405,12 @@ OVER_INPUTS = [
     ("stale.trace", "explain - --picture FILE < FILE"),
     ("stale.trace", "explain FILE --picture - >> FILE"),
     ("stale.trace", "explain FILE --picture NEW >> FILE"),
+    ("stale.trace", "explain FILE --json >> FILE"),
+    ("stale.jsonl", "check FILE >> FILE"),
+    ("stale.jsonl", "check - --json < FILE 1<> FILE"),
+    ("stale.jsonl", "check - --picture FILE < FILE"),
+    ("stale.jsonl", "check FILE --picture - >> FILE"),
+    ("stale.jsonl", "check FILE --picture NEW >> FILE"),
     ("stale.trace", "audit FILE >> FILE"),
     ("stale.trace", "show FILE 1<> FILE"),
     ("stale.trace", "< FILE >> FILE"),
@@ -515,11 +522,11 @@ def words():
     ):  # fmt: skip
         status, out, err = cops("explain", *given)
         check(f"usage of explain {given}", (status, out, err != b"", err == ALL_WITH_FAULT), (2, b"", True, False))
-    for command in ("audit", "explain", "show", "import", "convert", "run", "serve"):
+    for command in ("audit", "explain", "check", "show", "import", "convert", "run", "serve"):
         check(f"the help has {command}", f"  {command} ".encode() in cops("--help")[1], True)
     for option in (b"--all", b"--fault <N>", b"--picture <FILE>"):
         check(f"help of {option}", option in cops("explain", "--help")[1], True)
-    for given in (["--help"], *([command, "--help"] for command in ("audit", "explain", "show", "import", "convert", "run", "serve")), ["help"]):
+    for given in (["--help"], *([command, "--help"] for command in ("audit", "explain", "check", "show", "import", "convert", "run", "serve")), ["help"]):
         status, out, err = cops(*given)
         check(f"help of {given}", (status, b"Usage: cops" in out, err), (0, True, b""))
     for option in (b"--sessions <N>", b"--idle <SECONDS>"):
@@ -567,7 +574,7 @@ for tests in (
     examples, deletions, limits, conversions, long_chain, many_rounds, faults, cut_traces, shown, scenarios, refusals, faulty_scenarios, replaced,
     over_inputs, lines_in_place_of_a_trace, scripts, mixed_scripts, working_clusters, plain_cluster.random_worlds, many_workers, served, served_deletions,
     replies, strange_peers, sent_behind, idle_clients, listens_here_alone, words, devices, on_a_terminal, generated, long_traces, each_kind, many_suspects,
-    little_memory, no_thread, imports, pictures, redis, definition_files, mutations, plain.rows, plain.random_histories, plain.random_cuts,
+    little_memory, no_thread, imports, checks, pictures, redis, definition_files, mutations, plain.rows, plain.random_histories, plain.random_cuts,
     plain.cuts_of_deletions, plain_reader.changed_bytes,
 ):
     tests()

@@ -1,4 +1,5 @@
-"""Tests with a real store: clients of a Redis primary and its replica, recorded by examples/redis/run.py, imported, audited and explained."""
+"""Tests with a real store: clients of a Redis primary and its replica, recorded and checked by examples/redis/run.py, and imported and audited."""
+import json
 import os
 import shutil
 import subprocess
@@ -13,6 +14,20 @@ RUN = os.path.join(ROOT, "examples", "redis", "run.py")
 PATIENCE = 300
 
 
+def audit_of(lines, folder):
+    """The audit of an import of lines."""
+    trace = os.path.join(folder, "trace")
+    check(f"import of {os.path.basename(lines)}", cops("import", lines, trace)[::2], (0, b""))
+    return cops("audit", trace)
+
+
+def lines_by(path, client, key):
+    """The numbers of the lines of a client's operations on a key."""
+    with open(path, encoding="utf-8") as file:
+        made = list(map(json.loads, file))
+    return [number for number, of in enumerate(made, 1) if of["client"] == client and key in (of.get("put"), of.get("get"))]
+
+
 def redis():
     """If all gets are at the primary, what the clients saw is accepted; a get from a replica that lags is stale."""
     if not shutil.which("redis-server"):
@@ -20,16 +35,22 @@ def redis():
         return
     with tempfile.TemporaryDirectory() as folder:
         ran = subprocess.run([sys.executable, RUN, folder], stdout=subprocess.PIPE, timeout=PATIENCE)
-        lines = ran.stdout.decode().split("\n")
+        printed = ran.stdout.decode().split("\n")
+        primary, both = os.path.join(folder, "primary.jsonl"), os.path.join(folder, "both.jsonl")
         check("clients of Redis are recorded", ran.returncode, 0)
-        check("all at the primary: imported", "imported: 240 operations, 4 clients" in lines, True)
-        check("all at the primary: audited", cops("audit", os.path.join(folder, "primary.trace")), (0, b"accepted: 240 operations, 80 puts\n", b""))
-        check("some at the replica: imported", "imported: 87 operations, 4 clients" in lines, True)
+        accepted = "accepted: 240 operations, 80 puts"
+        check("all at the primary: checked", accepted in printed, True)
+        check("all at the primary: audited", audit_of(primary, folder), (0, f"{accepted}\n".encode(), b""))
+        check("some at the replica: checked", "refused: 87 operations, 43 puts, 1 fault" in printed, True)
         text = b"refused: 87 operations, 43 puts, 1 faults\nstale (1,2) returned 1.0, newer (0,1) at 2.0, chain (0,1) (0,2) (1,1) (1,2)\n"
         # Carol's and Dave's puts take versions between those of Alice's.
-        got, out, errors = cops("audit", os.path.join(folder, "both.trace"))
+        got, out, errors = audit_of(both, folder)
         check("some at the replica: audited", (got, without_newer(out), errors), (1, without_newer(text), b""))
-        check("some at the replica: explained", "fault 1: stale (1,2)" in lines, True)
+        _, looked, _ = lines_by(both, "bob", "picture")
+        _, newer = lines_by(both, "alice", "picture")
+        check("some at the replica: the fault", f"fault 1: stale bob, line {looked}" in printed, True)
+        known = f"bob got picture=old at 1.0, though it had to know of the newer put alice, line {newer}"
+        check("some at the replica: explained", known in printed, True)
 
 
 def without_newer(text):
