@@ -124,7 +124,9 @@ fn answered(
     ensures read_reported { IsErrOf read TraceFault.ReadFailed → IsErrOf result StreamFault.ReadFailed }
 {
     match read {
-        Ok(trace) => explanation(alloc, &trace, &Naming::Trace, request).or(Err(StreamFault::Memory)),
+        Ok(trace) => explanation(alloc, &trace, &Naming::Trace, request).or(Err(
+            StreamFault::Memory,
+        )),
         Err(TraceFault::Memory) => Err(StreamFault::Memory),
         Err(TraceFault::ReadFailed) => Err(StreamFault::ReadFailed),
         Err(fault) => faulty(alloc, &fault, request.is_json).or(Err(StreamFault::Memory)),

@@ -18,7 +18,8 @@ use cops_command::read_all;
 use cops_explain::{LineNames, Naming};
 use cops_explain_json::faulty_json;
 use cops_import::{
-    ImportFault, Imported, JsonLineFault, Names, Rules, Surveyed, faulty_line, import_stream, survey,
+    ImportFault, Imported, JsonLineFault, Names, Rules, Surveyed, faulty_line, import_stream,
+    survey,
 };
 use cops_trace::{Trace, read_trace};
 use cops_types::{Counted, Format, write_text};
@@ -39,10 +40,15 @@ fn copied(alloc: Global, names: &Names) -> Result<Vec<Vec<u8>>, AllocError>
 }
 
 /// What the lines of a text call the operations of their trace, whose clients have these names.
-fn naming_of(alloc: Global, bytes: &[u8], names: &Names, trace: &Trace) -> Result<Naming, AllocError>
+fn naming_of(
+    alloc: Global,
+    bytes: &[u8],
+    names: &Names,
+    trace: &Trace,
+) -> Result<Naming, AllocError>
     ensures { IfOk result (λ naming. naming ≡ Lines (record {
-        names = names.now;
-        lines = op_lines trace.now.clients (map (λ r. r.client) trace.now.records) (numbers_from 1 (lines bytes.now));
+      names = names.now;
+      lines = op_lines trace.now.clients (map (λ r. r.client) trace.now.records) (numbers_from 1 (lines bytes.now));
     })) }
 {
     let numbers = line_numbers(alloc, bytes)?;

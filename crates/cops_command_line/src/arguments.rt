@@ -7,8 +7,8 @@ ghost use Rattle.cops_command_line.specs.declared.job.TheConstants.{MAX_PORT};
 
 use crate::job::MAX_PORT;
 use crate::texts::{
-    ALL_HELP, FAULT_HELP, FORMAT_HELP, IDLE_HELP, JSON_HELP, PICTURE_HELP, RANK_HELP, PORT_HELP, SESSIONS_HELP, SO_FAR_HELP,
-    WORKERS_HELP,
+    ALL_HELP, FAULT_HELP, FORMAT_HELP, IDLE_HELP, JSON_HELP, PICTURE_HELP, PORT_HELP, RANK_HELP,
+    SESSIONS_HELP, SO_FAR_HELP, WORKERS_HELP,
 };
 use clap::builder::ValueParser;
 use clap::{Arg, ArgAction, value_parser};

@@ -5,14 +5,14 @@ ghost use Rattle.clap.specs.declared.builder.command.Command.TheViews.{out-Comma
 ghost use Rattle.cops_command_line.specs.Commands.{audit_app, check_app, explaining, cops_app, cops_top, convert_app, explain_app, import_app, judging_app, port_argument, positional, run_app, serve_app, show_app, tracing_app, versioned};
 
 use crate::arguments::{
-    all_arg, fault_arg, file_arg, format_arg, idle_arg, json_arg, picture_arg, port_arg,
-    rank_arg, sessions_arg, so_far_arg, workers_arg,
+    all_arg, fault_arg, file_arg, format_arg, idle_arg, json_arg, picture_arg, port_arg, rank_arg,
+    sessions_arg, so_far_arg, workers_arg,
 };
 use crate::texts::{
-    ABOUT, AUDIT_ABOUT, AUDIT_LONG_ABOUT, CHECK_ABOUT, CHECK_LONG_ABOUT, CONVERT_ABOUT, CONVERT_LONG_ABOUT, EXPLAIN_ABOUT,
-    EXPLAIN_LONG_ABOUT, IMPORT_ABOUT, IMPORT_LONG_ABOUT, LINES_HELP, LONG_ABOUT, NEW_TRACE_HELP,
-    RUN_ABOUT, RUN_LONG_ABOUT, SCENARIO_HELP, SERVE_ABOUT, SERVE_LONG_ABOUT, SHOW_ABOUT,
-    SHOW_LONG_ABOUT, TRACE_HELP, VERSION,
+    ABOUT, AUDIT_ABOUT, AUDIT_LONG_ABOUT, CHECK_ABOUT, CHECK_LONG_ABOUT, CONVERT_ABOUT,
+    CONVERT_LONG_ABOUT, EXPLAIN_ABOUT, EXPLAIN_LONG_ABOUT, IMPORT_ABOUT, IMPORT_LONG_ABOUT,
+    LINES_HELP, LONG_ABOUT, NEW_TRACE_HELP, RUN_ABOUT, RUN_LONG_ABOUT, SCENARIO_HELP, SERVE_ABOUT,
+    SERVE_LONG_ABOUT, SHOW_ABOUT, SHOW_LONG_ABOUT, TRACE_HELP, VERSION,
 };
 use clap::{Arg, Command};
 use std::alloc::{AllocError, Global};

@@ -3,7 +3,7 @@
 use crate::words::{add_behind, lossy, no_row, u32_of, word};
 use anyhow::{Error, bail};
 use cops_audit::judge;
-use cops_explain::explain;
+use cops_explain::{NamedHistory, Naming, explain};
 use cops_trace::Trace;
 use cops_types::{History, Selection};
 use std::alloc::Global;
@@ -45,7 +45,12 @@ fn last_line(alloc: Global, reported: &str) -> Result<String, Error> {
 fn explained(alloc: Global, history: &History, words: &[&str]) -> Result<Vec<u8>, Error> {
     let asked = read_asked(words)?;
     let verdict = judge(alloc, history)?;
-    let reported = explain(alloc, history, &verdict, asked);
+    let naming = Naming::Trace;
+    let named = NamedHistory {
+        history,
+        naming: &naming,
+    };
+    let reported = explain(alloc, named, &verdict, asked);
     drop(verdict);
     Ok(reported?)
 }

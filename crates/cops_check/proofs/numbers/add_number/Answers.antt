@@ -14,7 +14,7 @@ returns-in_ok-push c =
     let at = c.from-at.result in
     let lists = map (λ (numbers : Vec ℕ Global). numbers.items) table in
     let old : c.index_mut.result.now.items ≡ slice_index_or lists at [] =
-      ap (λ (numbers : Vec ℕ Global). numbers.items) c.index_mut.ensures.value ∙ sym (items_at table at c.index_mut.result.now (omega (arith, c.if-at-len.true, c.len.ensures))) in
+    ap (λ (numbers : Vec ℕ Global). numbers.items) c.index_mut.ensures.value ∙ sym (items_at table at c.index_mut.result.now (omega (arith, c.if-at-len.true, c.len.ensures))) in
     rw (← c.from-at.ensures)
     (map-set (λ (numbers : Vec ℕ Global). numbers.items) table at c.push.new.self
     ∙ ap (λ (numbers : List ℕ). slice_set lists at numbers) (c.in_ok-push.ensures.items ∙ ap (λ (numbers : List ℕ). numbers ++ c.args.number ∷ []) old))
