@@ -1,7 +1,7 @@
 -- A writer holds what it gained before it was flushed.
 use Rattle.std.proofs.Common.{◌≡◌, ℕ, Bool, true, false, List, Option, None, Some, Result, Ok, Err, refl, subst, sym, ◌∙◌}
 use Rattle.std.specs.Global.{Vec}
-use Rattle.std.specs.Prelude.{IfOk, IfSome}
+use Rattle.std.specs.Prelude.{IfOk, IfSome, IsOkAnd}
 use Rattle.std.specs.Io.KnownBytes.{Appends, Keeps}
 use Rattle.cops_import.specs.Imports.{IsImport}
 use Rattle.cops_import.specs.Words.{reported_text}
@@ -67,12 +67,18 @@ module _ {E : Type 0} (known : Option (List ℕ)) (is_drawn : Bool) (Writes : Li
       → IfOk result (λ e. IfSome known (λ bytes. Writes bytes e.answer))
       → (is_drawn ≡ true → IfOk result (λ e. IfSome known (λ bytes. IsIt bytes e.picture)))
       → IfOk result (λ e. e.answer ≡ answer.Accepted → IfSome known Converges)
-      → IfSome known (λ bytes. Converges bytes × Writes bytes answer.Accepted × Draws is_drawn (IsIt bytes) made_old made_new)
+      → IfSome known (λ bytes. Converges bytes × (Writes bytes answer.Accepted × Draws is_drawn (IsIt bytes) made_old made_new))
   explains_accepted Converges (Err fault) made_old made_new has writes says converges = absurd has
   explains_accepted Converges (Ok e) made_old made_new has writes says converges =
       both known (converges has.0) (explains answer.Accepted (Ok e) made_old made_new has writes says)
     where
       both : (a : Option (List ℕ)) → IfSome a Converges → IfSome a (λ bytes. Writes bytes answer.Accepted × Draws is_drawn (IsIt bytes) made_old made_new)
-          → IfSome a (λ bytes. Converges bytes × Writes bytes answer.Accepted × Draws is_drawn (IsIt bytes) made_old made_new)
+          → IfSome a (λ bytes. Converges bytes × (Writes bytes answer.Accepted × Draws is_drawn (IsIt bytes) made_old made_new))
       both None c w = tt
       both (Some bytes) c w = (c, w)
+
+-- what was printed with this answer
+pub printed : {E : Type 0} (known : Option (List ℕ)) (Writes : List ℕ → Answer → Type 0) (given : Answer) (result : Result Explained E) → IsOkAnd result (λ e. e.answer ≡ given)
+    → IfOk result (λ e. IfSome known (λ bytes. Writes bytes e.answer)) → IfSome known (λ bytes. Writes bytes given)
+printed known Writes given (Err fault) is writes = absurd is
+printed known Writes given (Ok e) is writes = subst (λ (a : Answer). IfSome known (λ bytes. Writes bytes a)) is writes

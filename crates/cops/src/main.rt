@@ -253,7 +253,7 @@ where
 /// Runs an import, with versions by their ranks or as they stand. Its lines are read twice: first to survey them.
 fn perform_import<R, S, E>(
     rt: &R,
-    (job, is_ranked): (Job<'_>, bool),
+    wanted: (Job<'_>, bool),
     source: Source<S>,
     target: Target<'_>,
     given: (E, u32),
@@ -265,6 +265,7 @@ where
     S: Read + Drop,
     E: Write + IsTerminal + Copy + Drop,
 {
+    let (job, is_ranked) = wanted;
     let (errors, process) = given;
     let begun = begun(rt, errors.is_terminal());
     let found = match surveyed_lines(rt, source, is_ranked, (begun, process)) {
@@ -297,13 +298,14 @@ fn surveyed_lines<R, S>(
     rt: &R,
     source: Source<S>,
     is_ranked: bool,
-    (begun, process): (Option<Instant>, u32),
+    given: (Option<Instant>, u32),
 ) -> Result<(Surveyed, File), NoLines>
 where
     R: Files<File = File> + Eprint + AllocGlobal + Env + Clock,
     S: Read + Drop,
     ensures { IfOk result (λ found. AreRead is_ranked found.0.versions) }
 {
+    let (begun, process) = given;
     let file = match source {
         Source::File(file) if is_plain(&file) => file,
         source => {
