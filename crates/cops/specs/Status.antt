@@ -96,6 +96,11 @@ abbrev pub Checks : Bool → Request → List ℕ → Answer → Option (List �
 Checks is_ranked request bytes answer made_old made_new old new =
     WritesChecked is_ranked request bytes answer old new × Draws request.is_drawn (DrawingSays is_ranked request.faults bytes) made_old made_new
 
+-- only an import reads its input twice
+abbrev pub IsReadOnce : Job → Type 0
+IsReadOnce (Import lines trace format is_ranked) = ⊥
+IsReadOnce job = Unit {0}
+
 -- the lines of an import were surveyed as its words want
 abbrev pub IsSurveyed : Job → Versions → Type 0
 IsSurveyed (Import lines trace format is_ranked) versions = AreRead is_ranked versions

@@ -16,7 +16,7 @@ ghost use Rattle.cops_scenario.specs.File.{IsNoScenario};
 ghost use Rattle.cops_command.specs.Status.{number, number as status_number};
 ghost use Rattle.cops_command.specs.declared.status.Status.TheVariants.{Accepted, Failed, Faulty, NoMemory, Refused};
 ghost use Rattle.cops_run_command.specs.Running.{EndsWell as HasRun};
-ghost use Rattle.cops.specs.Status.{Checks, EndsFaulty, EndsRefused, EndsWell, Explains, HasAnswered, Gains, HasConverted, HasServed, Imports, IsFaultyAnswer, IsSurveyed, IsUnconverted, MayWork, PrintsLine, StopsAtLine, IsNoTraceText, HasOtherFault, IsTraceText, drawn_text, request_of};
+ghost use Rattle.cops.specs.Status.{Checks, EndsFaulty, EndsRefused, EndsWell, Explains, HasAnswered, Gains, HasConverted, HasServed, Imports, IsFaultyAnswer, IsReadOnce, IsSurveyed, IsUnconverted, MayWork, PrintsLine, StopsAtLine, IsNoTraceText, HasOtherFault, IsTraceText, drawn_text, request_of};
 
 use crate::output::Output;
 use cops_audit_commands::{
@@ -61,7 +61,6 @@ pub struct Ended<T, W, E> {
 }
 
 /// Runs a job over its input. For an import, `surveyed` is what a first reading of the input found.
-#[tactic(auto, using(crate::proofs::Kept::explained))]
 pub fn command<R, I, T, W, E>(
     rt: &R,
     job: Job<'_>,
@@ -85,6 +84,42 @@ where
         (T.contents (inner outputs.made)) (T.contents (inner result.outputs.made)) (W.contents (inner outputs.out)) (W.contents (inner result.outputs.out))) }
 {
     match job {
+        Job::Import { format, .. } => {
+            let Surveyed { clients, versions } = surveyed;
+            let rules = Rules { format, versions };
+            import(rt.alloc(), rules, clients, input, outputs)
+        }
+        job => {
+            drop(surveyed);
+            reading_once(rt, job, input, outputs)
+        }
+    }
+}
+
+/// Runs a job that is no import over its input.
+#[tactic(auto, using(crate::proofs::Kept::explained))]
+fn reading_once<R, I, T, W, E>(
+    rt: &R,
+    job: Job<'_>,
+    input: &mut Counted<I>,
+    outputs: Outputs<T, W, E>,
+) -> Ended<T, W, E>
+where
+    R: AllocGlobal + Threads + Wait + Sync,
+    R: Net<Listener = TcpListener, Stream = TcpStream>,
+    I: Read,
+    T: Write + Output + Send + Drop,
+    W: Write + Drop,
+    E: Write + Drop,
+    requires { IsReadOnce job }
+    ensures well { result.status ≡ number Accepted → IfSome (I.remaining (inner input.old)) (λ bytes. EndsWell job.entry bytes
+        (T.contents (inner outputs.made)) (T.contents (inner result.outputs.made)) (W.contents (inner outputs.out)) (W.contents (inner result.outputs.out))) }
+    ensures refused { result.status ≡ number Refused → IfSome (I.remaining (inner input.old)) (λ bytes. EndsRefused job.entry bytes
+        (T.contents (inner outputs.made)) (T.contents (inner result.outputs.made)) (W.contents (inner outputs.out)) (W.contents (inner result.outputs.out))) }
+    ensures faulty { result.status ≡ number Faulty → MayWork job.entry → IfSome (I.remaining (inner input.old)) (λ bytes. EndsFaulty job.entry bytes
+        (T.contents (inner outputs.made)) (T.contents (inner result.outputs.made)) (W.contents (inner outputs.out)) (W.contents (inner result.outputs.out))) }
+{
+    match job {
         Job::Audit { workers, .. } => audit(rt, workers, input, outputs),
         Job::SoFar { .. } => so_far(rt.alloc(), input, outputs),
         Job::Explain { wanted, .. } => explain(rt.alloc(), request_of(wanted), input, outputs),
@@ -94,11 +129,7 @@ where
             ..
         } => check(rt.alloc(), is_ranked, request_of(wanted), input, outputs),
         Job::Show { .. } => show(rt.alloc(), input, outputs),
-        Job::Import { format, .. } => {
-            let Surveyed { clients, versions } = surveyed;
-            let rules = Rules { format, versions };
-            import(rt.alloc(), rules, clients, input, outputs)
-        }
+        Job::Import { .. } => unreachable!(),
         Job::Convert { .. } => convert(rt.alloc(), input, outputs),
         Job::Run { .. } => run_scenario(rt, input, outputs),
         Job::Serve {
