@@ -122,12 +122,12 @@ where
     match job {
         Job::Audit { workers, .. } => audit(rt, workers, input, outputs),
         Job::SoFar { .. } => so_far(rt.alloc(), input, outputs),
-        Job::Explain { wanted, .. } => explain(rt.alloc(), wanted, input, outputs),
+        Job::Explain { wanted, .. } => explain(rt.alloc(), request_of(wanted), input, outputs),
         Job::Check {
             is_ranked,
             wanted,
             ..
-        } => check(rt.alloc(), is_ranked, wanted, input, outputs),
+        } => check(rt.alloc(), is_ranked, request_of(wanted), input, outputs),
         Job::Show { .. } => show(rt.alloc(), input, outputs),
         Job::Import { .. } => unreachable!(),
         Job::Convert { .. } => convert(rt.alloc(), input, outputs),
@@ -256,7 +256,7 @@ where
 /// asked for. The status is that of an audit, unless the picture could not be written.
 fn explain<I, T, W, E>(
     alloc: Global,
-    wanted: Wanted<'_>,
+    request: Request,
     input: &mut Counted<I>,
     outputs: Outputs<T, W, E>,
 ) -> Ended<T, W, E>
@@ -265,9 +265,9 @@ where
     T: Write + Output,
     W: Write,
     E: Write,
-    ensures accepted { result.status ≡ number Accepted → IfSome (I.remaining (inner input.old)) (λ bytes. EncodesConvergent bytes × Explains (request_of wanted.entry) bytes Answer.Accepted
+    ensures accepted { result.status ≡ number Accepted → IfSome (I.remaining (inner input.old)) (λ bytes. EncodesConvergent bytes × Explains request bytes Answer.Accepted
         (T.contents (inner outputs.made)) (T.contents (inner result.outputs.made)) (W.contents (inner outputs.out)) (W.contents (inner result.outputs.out))) }
-    ensures refused { result.status ≡ number Refused → IfSome (I.remaining (inner input.old)) (λ bytes. Explains (request_of wanted.entry) bytes Answer.Refused
+    ensures refused { result.status ≡ number Refused → IfSome (I.remaining (inner input.old)) (λ bytes. Explains request bytes Answer.Refused
         (T.contents (inner outputs.made)) (T.contents (inner result.outputs.made)) (W.contents (inner outputs.out)) (W.contents (inner result.outputs.out))) }
     ensures faulty { result.status ≡ number Faulty → IfSome (I.remaining (inner input.old)) IsNoTraceText }
     ensures undrawn { result.status ≡ number Faulty → T.contents (inner result.outputs.made) ≡ T.contents (inner outputs.made) }
@@ -277,7 +277,6 @@ where
         mut out,
         mut errors,
     } = outputs;
-    let request = request_of(wanted);
     let explained = explain_stream(alloc, input, &mut out, request);
     let status = explained_status(explained, request.is_drawn, &mut made, &mut errors);
     Ended {
@@ -334,7 +333,7 @@ where
 fn check<I, T, W, E>(
     alloc: Global,
     is_ranked: bool,
-    wanted: Wanted<'_>,
+    request: Request,
     input: &mut Counted<I>,
     outputs: Outputs<T, W, E>,
 ) -> Ended<T, W, E>
@@ -343,11 +342,11 @@ where
     T: Write + Output,
     W: Write,
     E: Write,
-    ensures accepted { result.status ≡ number Accepted → IfSome (I.remaining (inner input.old)) (λ bytes. DescribesConvergent is_ranked bytes × Checks is_ranked (request_of wanted.entry) bytes Answer.Accepted
+    ensures accepted { result.status ≡ number Accepted → IfSome (I.remaining (inner input.old)) (λ bytes. DescribesConvergent is_ranked bytes × Checks is_ranked request bytes Answer.Accepted
         (T.contents (inner outputs.made)) (T.contents (inner result.outputs.made)) (W.contents (inner outputs.out)) (W.contents (inner result.outputs.out))) }
-    ensures refused { result.status ≡ number Refused → IfSome (I.remaining (inner input.old)) (λ bytes. Checks is_ranked (request_of wanted.entry) bytes Answer.Refused
+    ensures refused { result.status ≡ number Refused → IfSome (I.remaining (inner input.old)) (λ bytes. Checks is_ranked request bytes Answer.Refused
         (T.contents (inner outputs.made)) (T.contents (inner result.outputs.made)) (W.contents (inner outputs.out)) (W.contents (inner result.outputs.out))) }
-    ensures faulty { result.status ≡ number Faulty → IfSome (I.remaining (inner input.old)) (λ bytes. WritesChecked is_ranked (request_of wanted.entry) bytes Answer.Faulty
+    ensures faulty { result.status ≡ number Faulty → IfSome (I.remaining (inner input.old)) (λ bytes. WritesChecked is_ranked request bytes Answer.Faulty
         (W.contents (inner outputs.out)) (W.contents (inner result.outputs.out))) }
     ensures undrawn { result.status ≡ number Faulty → T.contents (inner result.outputs.made) ≡ T.contents (inner outputs.made) }
 {
@@ -356,7 +355,6 @@ where
         mut out,
         mut errors,
     } = outputs;
-    let request = request_of(wanted);
     let checked = check_stream(alloc, input, &mut out, is_ranked, request);
     let status = checked_status(checked, request.is_drawn, &mut made, &mut errors);
     Ended {

@@ -4,12 +4,10 @@ use Rattle.cops.proofs.command.explain.Goals as goal
 
 pub returns-clause-accepted : goal.returns-clause-accepted
 returns-clause-accepted g c = λ is.
-    rw (← c.request_of-request.ensures)
-    (explains_accepted _ c.request_of-request.result.is_drawn _ _ _ c.explain_stream-explained.result _ _
-    (c.explained_status-status.ensures.accepted is) c.explain_stream-explained.ensures.ok c.explain_stream-explained.ensures.drawn c.explain_stream-explained.ensures.accepted)
+    explains_accepted _ c.args.request.is_drawn _ _ _ c.explain_stream-explained.result _ _
+    (c.explained_status-status.ensures.accepted is) c.explain_stream-explained.ensures.ok c.explain_stream-explained.ensures.drawn c.explain_stream-explained.ensures.accepted
 
 pub returns-clause-refused : goal.returns-clause-refused
 returns-clause-refused g c = λ is.
-    rw (← c.request_of-request.ensures)
-    (explains _ c.request_of-request.result.is_drawn _ _ answer.Refused c.explain_stream-explained.result _ _
-    (c.explained_status-status.ensures.refused is) c.explain_stream-explained.ensures.ok c.explain_stream-explained.ensures.drawn)
+    explains _ c.args.request.is_drawn _ _ answer.Refused c.explain_stream-explained.result _ _
+    (c.explained_status-status.ensures.refused is) c.explain_stream-explained.ensures.ok c.explain_stream-explained.ensures.drawn
