@@ -16,7 +16,7 @@ ghost use Rattle.cops_scenario.specs.File.{IsNoScenario};
 ghost use Rattle.cops_command.specs.Status.{number, number as status_number};
 ghost use Rattle.cops_command.specs.declared.status.Status.TheVariants.{Accepted, Failed, Faulty, NoMemory, Refused};
 ghost use Rattle.cops_run_command.specs.Running.{EndsWell as HasRun};
-ghost use Rattle.cops.specs.Status.{Checks, EndsFaulty, EndsRefused, EndsWell, Explains, HasAnswered, Gains, HasConverted, HasServed, Imports, IsFaultyAnswer, IsReadOnce, IsSurveyed, IsUnconverted, MayWork, PrintsLine, StopsAtLine, IsNoTraceText, HasOtherFault, IsTraceText, drawn_text, request_of};
+ghost use Rattle.cops.specs.Status.{Checks, EndsFaulty, EndsRefused, EndsWell, Explains, HasAnswered, Gains, HasConverted, HasServed, Imports, IsFaultyAnswer, IsReadOnce, IsSurveyed, IsUnconverted, MayWork, PrintsLine, StopsAtLine, IsNoTraceText, HasOtherFault, IsTraceText, drawn_text};
 
 use crate::output::Output;
 use cops_audit_commands::{
@@ -25,7 +25,7 @@ use cops_audit_commands::{
 };
 use cops_check::{CheckFault, check_stream};
 use cops_command::{Status, print};
-use cops_command_line::{Job, Wanted};
+use cops_command_line::Job;
 use cops_import::{
     ImportFault, Imported, JsonLineFault, Rules, Surveyed, Unimported, faulty_line, import_stream,
 };
@@ -122,12 +122,26 @@ where
     match job {
         Job::Audit { workers, .. } => audit(rt, workers, input, outputs),
         Job::SoFar { .. } => so_far(rt.alloc(), input, outputs),
-        Job::Explain { wanted, .. } => explain(rt.alloc(), request_of(wanted), input, outputs),
+        Job::Explain { wanted, .. } => {
+            let request = Request {
+                faults: wanted.faults,
+                is_drawn: wanted.picture.is_some(),
+                is_json: wanted.is_json,
+            };
+            explain(rt.alloc(), request, input, outputs)
+        }
         Job::Check {
             is_ranked,
             wanted,
             ..
-        } => check(rt.alloc(), is_ranked, request_of(wanted), input, outputs),
+        } => {
+            let request = Request {
+                faults: wanted.faults,
+                is_drawn: wanted.picture.is_some(),
+                is_json: wanted.is_json,
+            };
+            check(rt.alloc(), is_ranked, request, input, outputs)
+        }
         Job::Show { .. } => show(rt.alloc(), input, outputs),
         Job::Import { .. } => unreachable!(),
         Job::Convert { .. } => convert(rt.alloc(), input, outputs),
@@ -138,17 +152,6 @@ where
             idle,
             ..
         } => serve(rt, port, sessions, idle, input, outputs),
-    }
-}
-
-/// What the words want of an explanation.
-fn request_of(wanted: Wanted<'_>) -> Request
-    ensures { result ≡ request_of wanted.entry }
-{
-    Request {
-        faults: wanted.faults,
-        is_drawn: wanted.picture.is_some(),
-        is_json: wanted.is_json,
     }
 }
 
