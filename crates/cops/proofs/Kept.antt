@@ -77,8 +77,10 @@ module _ {E : Type 0} (known : Option (List ℕ)) (is_drawn : Bool) (Writes : Li
       both None c w = tt
       both (Some bytes) c w = (c, w)
 
--- what was printed with this answer
-pub printed : {E : Type 0} (known : Option (List ℕ)) (Writes : List ℕ → Answer → Type 0) (given : Answer) (result : Result Explained E) → IsOkAnd result (λ e. e.answer ≡ given)
-    → IfOk result (λ e. IfSome known (λ bytes. Writes bytes e.answer)) → IfSome known (λ bytes. Writes bytes given)
-printed known Writes given (Err fault) is writes = absurd is
-printed known Writes given (Ok e) is writes = subst (λ (a : Answer). IfSome known (λ bytes. Writes bytes a)) is writes
+-- what was printed with this answer, where nothing was made
+pub printed : {E : Type 0} (known : Option (List ℕ)) (Writes : List ℕ → Answer → Type 0) (given : Answer) (result : Result Explained E) (made_old made_new : Option (List ℕ))
+    → IsOkAnd result (λ e. e.answer ≡ given) × (made_new ≡ made_old) → IfOk result (λ e. IfSome known (λ bytes. Writes bytes e.answer))
+    → IfSome known (λ bytes. Writes bytes given × (made_new ≡ made_old))
+printed known Writes given (Err fault) made_old made_new is writes = absurd is.0
+printed None Writes given (Ok e) made_old made_new is writes = tt
+printed (Some bytes) Writes given (Ok e) made_old made_new is writes = (subst (λ (a : Answer). Writes bytes a) is.0 writes, is.1)

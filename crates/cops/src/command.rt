@@ -350,8 +350,7 @@ where
     ensures refused { result.status ≡ number Refused → IfSome (I.remaining (inner input.old)) (λ bytes. Checks is_ranked request bytes Answer.Refused
         (T.contents (inner outputs.made)) (T.contents (inner result.outputs.made)) (W.contents (inner outputs.out)) (W.contents (inner result.outputs.out))) }
     ensures faulty { result.status ≡ number Faulty → IfSome (I.remaining (inner input.old)) (λ bytes. WritesChecked is_ranked request bytes Answer.Faulty
-        (W.contents (inner outputs.out)) (W.contents (inner result.outputs.out))) }
-    ensures undrawn { result.status ≡ number Faulty → T.contents (inner result.outputs.made) ≡ T.contents (inner outputs.made) }
+        (W.contents (inner outputs.out)) (W.contents (inner result.outputs.out)) × (T.contents (inner result.outputs.made) ≡ T.contents (inner outputs.made))) }
 {
     let Outputs {
         mut made,

@@ -4,7 +4,7 @@ pub const ABOUT: &str =
     "A COPS cluster in one process, and an auditor of the histories that clients recorded";
 
 /// The version of the program, and the Rattle toolchain and its logic with which it is proved and built.
-pub const VERSION: &str = "0.1.0 (rattle-kit-13f, logic dac8208d650f15bf)";
+pub const VERSION: &str = "0.1.0 (rattle-kit-13b, logic dac8208d650f15bf)";
 
 pub const LONG_ABOUT: &str = "\
 A COPS cluster in one process, and an auditor of the histories that clients recorded.

@@ -18,4 +18,4 @@ pub returns-clause-faulty : goal.returns-clause-faulty
 returns-clause-faulty g c = λ is.
     printed (g.I.Read.remaining (inner c.args.input.now))
     (λ bytes given. WritesChecked c.args.is_ranked c.args.request bytes given (g.W.Write.contents (inner c.args.outputs.out)) (g.W.Write.contents (inner c.check_stream-checked.new.writer)))
-    answer.Faulty c.check_stream-checked.result (c.checked_status-status.ensures.faulty is).0 c.check_stream-checked.ensures.ok
+    answer.Faulty c.check_stream-checked.result _ _ (c.checked_status-status.ensures.faulty is) c.check_stream-checked.ensures.ok
