@@ -60,7 +60,8 @@ pub struct Ended<T, W, E> {
     pub outputs: Outputs<T, W, E>,
 }
 
-/// Runs a job over its input. For an import, `surveyed` is what a first reading of the input found.
+/// Runs a job over its input. For an import, `surveyed` is what a first reading of the input found, with versions read as
+/// the job wants.
 pub fn command<R, I, T, W, E>(
     rt: &R,
     job: Job<'_>,
@@ -75,12 +76,11 @@ where
     T: Write + Output + Send + Drop,
     W: Write + Drop,
     E: Write + Drop,
-    requires { IsSurveyed job surveyed.versions }
-    ensures well { result.status ≡ number Accepted → IfSome (I.remaining (inner input.old)) (λ bytes. EndsWell job.entry bytes
+    ensures well { result.status ≡ number Accepted → IsSurveyed job.entry surveyed.versions → IfSome (I.remaining (inner input.old)) (λ bytes. EndsWell job.entry bytes
         (T.contents (inner outputs.made)) (T.contents (inner result.outputs.made)) (W.contents (inner outputs.out)) (W.contents (inner result.outputs.out))) }
     ensures refused { result.status ≡ number Refused → IfSome (I.remaining (inner input.old)) (λ bytes. EndsRefused job.entry bytes
         (T.contents (inner outputs.made)) (T.contents (inner result.outputs.made)) (W.contents (inner outputs.out)) (W.contents (inner result.outputs.out))) }
-    ensures faulty { result.status ≡ number Faulty → MayWork job.entry → IfSome (I.remaining (inner input.old)) (λ bytes. EndsFaulty job.entry bytes
+    ensures faulty { result.status ≡ number Faulty → MayWork job.entry → IsSurveyed job.entry surveyed.versions → IfSome (I.remaining (inner input.old)) (λ bytes. EndsFaulty job.entry bytes
         (T.contents (inner outputs.made)) (T.contents (inner result.outputs.made)) (W.contents (inner outputs.out)) (W.contents (inner result.outputs.out))) }
 {
     match job {
