@@ -13,7 +13,7 @@ bob got x=1 at 1.0, though it had to know of the newer put ann, line 2
 """
 
 # Versions in increasing order: times in microseconds, texts by their bytes, and times with the name of a node.
-TIMES = [0, 9, 10, 1764500000000001, 1764500000000002, 2**48, 2**64 - 1]
+TIMES = [0, 9, 10, 2**48, 1764500000000001, 1764500000000002, 2**64 - 1]
 TEXTS = ["", "10", "9", "Z", "a", "aa", "b\u00e9", "\u20ac", "\U0001f600", "a text of more than sixteen bytes"]
 PAIRS = [[3, ""], [3, "a"], [3, "b"], [20, "a"], [2**64 - 1, "node 7"]]
 
