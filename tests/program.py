@@ -29,6 +29,7 @@ from events import scenario  # noqa: E402
 from imports import imports  # noqa: E402
 from limits import limits  # noqa: E402
 from named import definition_files, mutations  # noqa: E402
+from outcomes import outcomes  # noqa: E402
 from sessions import idle_clients, listens_here_alone, replies, sent_behind, served, served_deletions, strange_peers  # noqa: E402
 from terminal import on_a_terminal  # noqa: E402
 

@@ -5,6 +5,7 @@ use Rattle.std.specs.Prelude.{IfOk, IfSome, IsOkAnd}
 use Rattle.std.specs.Io.KnownBytes.{Appends, Keeps}
 use Rattle.cops_import.specs.Imports.{IsImport}
 use Rattle.cops_import.specs.Words.{reported_text}
+use Rattle.cops_import.specs.declared.outcome.Outcome.{Outcome}
 use Rattle.cops_import.specs.declared.rules.Rules.{Rules}
 use Rattle.cops_audit_commands.specs.declared.audit.Answer.{Answer}
 use Rattle.cops_audit_commands.specs.declared.audit.Answer.TheVariants as answer
@@ -18,18 +19,18 @@ kept_text (Some xs) (Some ys) None bs gained kept = absurd kept
 kept_text (Some xs) (Some ys) (Some zs) bs gained kept = kept ∙ gained
 
 -- an import whose trace was flushed and whose report was printed
-pub imported : (rules : Rules) (known : Option (List ℕ)) (names : List (List ℕ)) (operations : ℕ) (made_old mid made_new old new : Option (List ℕ))
-    → IfSome known (λ bytes. IsImport rules bytes made_old mid names operations) → Keeps mid made_new → Appends old new (reported_text names operations)
+pub imported : (rules : Rules) (known : Option (List ℕ)) (names : List (List ℕ)) (unknown : List Outcome) (operations : ℕ) (made_old mid made_new old new : Option (List ℕ))
+    → IfSome known (λ bytes. IsImport rules bytes made_old mid names unknown operations) → Keeps mid made_new → Appends old new (reported_text names unknown operations)
     → IfSome known (λ bytes. Imports rules bytes made_old made_new old new)
-imported rules None names operations made_old mid made_new old new is_import kept printed = tt
-imported rules (Some bytes) names operations made_old mid made_new old new is_import kept printed = record {
+imported rules None names unknown operations made_old mid made_new old new is_import kept printed = tt
+imported rules (Some bytes) names unknown operations made_old mid made_new old new is_import kept printed = record {
   names = names;
+  unknown = unknown;
   operations = operations;
   is_import = record {
     given = is_import.given;
     report = is_import.report;
-    names_are = is_import.names_are;
-    counted = is_import.counted;
+    summary = is_import.summary;
     is_trace = is_import.is_trace;
     written = kept_text made_old mid made_new _ is_import.written kept;
   };

@@ -32,13 +32,14 @@ use Rattle.cops_audit_commands.specs.Explain.{PictureSays, WritesExplained}
 use Rattle.cops_audit_commands.specs.Show.{Shows}
 use Rattle.cops_audit_commands.specs.SoFar.{IsSoundSoFar, WritesSoFar}
 use Rattle.cops_audit_commands.specs.Convergent.{EncodesConvergent}
-use Rattle.cops_import.specs.Faults.{IsFirstFaulty}
+use Rattle.cops_import.specs.Faults.{IsWrongLine}
 use Rattle.cops_import.specs.Imports.{IsImport}
 use Rattle.cops_import.specs.Line.{AreRead}
 use Rattle.cops_import.specs.Words.{faulty_line, reported_text}
 use Rattle.cops_import.specs.declared.fault.ImportFault.{ImportFault}
 use Rattle.cops_import.specs.declared.fault.ImportFault.TheVariants.{Line}
 use Rattle.cops_import.specs.declared.fault.JsonLineFault.{JsonLineFault}
+use Rattle.cops_import.specs.declared.outcome.Outcome.{Outcome}
 use Rattle.cops_import.specs.declared.rules.Rules.{Rules}
 use Rattle.cops_import.specs.declared.rules.Versions.{Versions}
 use Rattle.cops_run_command.specs.Running.{EndsWell as HasRun}
@@ -110,12 +111,13 @@ IsSurveyed job versions = Unit {0}
 abbrev pub AreRules : Format → Bool → Rules → Type 0
 AreRules format is_ranked rules = (rules.format ≡ format) × AreRead is_ranked rules.versions
 
--- the lines of the bytes decode to one trace, whose text its writer gained, and the names of its clients were printed
+-- the lines of the bytes decode to one trace, whose text its writer gained, and its clients, their number and the outcomes of its puts were printed
 pub record Imports (rules : Rules) (bytes : List ℕ) (made_old made_new old new : Option (List ℕ)) : Type 0 where
   pub names : List (List ℕ)
+  pub unknown : List Outcome
   pub operations : ℕ
-  pub is_import : IsImport rules bytes made_old made_new names operations
-  pub printed : Appends old new (reported_text names operations)
+  pub is_import : IsImport rules bytes made_old made_new names unknown operations
+  pub printed : Appends old new (reported_text names unknown operations)
 
 -- the report of a line that is wrong was printed
 abbrev pub PrintsLine : ImportFault → Option (List ℕ) → Option (List ℕ) → Type 0
@@ -125,7 +127,7 @@ PrintsLine e old new = (line : ℕ) × (fault : JsonLineFault) × (e ≡ Line li
 pub record StopsAtLine (rules : Rules) (bytes : List ℕ) (made_old made_new old new : Option (List ℕ)) : Type 0 where
   pub line : ℕ
   pub fault : JsonLineFault
-  pub is_first : IsFirstFaulty rules bytes line fault
+  pub is_wrong : IsWrongLine rules bytes line fault
   pub printed : Appends old new (faulty_line line fault)
   pub written : ℕ
   pub cut : IsCutShort made_old made_new written

@@ -27,7 +27,7 @@ use cops_check::{CheckFault, check_stream};
 use cops_command::{Status, print};
 use cops_command_line::Job;
 use cops_import::{
-    ImportFault, Imported, JsonLineFault, Rules, Surveyed, Unimported, faulty_line, import_stream,
+    Expected, ImportFault, Imported, JsonLineFault, Rules, Surveyed, Unimported, faulty_line, import_stream,
 };
 use cops_run_command::{Streamed, run_stream};
 use cops_serve::serve_stream;
@@ -85,9 +85,9 @@ where
 {
     match job {
         Job::Import { format, .. } => {
-            let Surveyed { clients, versions } = surveyed;
+            let Surveyed { expected, versions } = surveyed;
             let rules = Rules { format, versions };
-            import(rt.alloc(), rules, clients, input, outputs)
+            import(rt.alloc(), rules, expected, input, outputs)
         }
         job => {
             drop(surveyed);
@@ -443,13 +443,13 @@ where
     }
 }
 
-/// Imports the lines of the input, read by these rules, in which a first reading counted `clients` clients: accepted
-/// only for lines that decode to a trace, whose text was written before it was flushed.
+/// Imports the lines of the input, read by these rules, of which this is expected: accepted only for lines that decode to
+/// a trace, whose text was written before it was flushed.
 #[tactic(auto, using(crate::proofs::Kept::imported))]
 fn import<I, T, W, E>(
     alloc: Global,
     rules: Rules,
-    clients: u16,
+    expected: Expected,
     input: &mut Counted<I>,
     outputs: Outputs<T, W, E>,
 ) -> Ended<T, W, E>
@@ -469,7 +469,7 @@ where
         mut out,
         mut errors,
     } = outputs;
-    let (status, made) = match import_stream(alloc, rules, clients, input, made) {
+    let (status, made) = match import_stream(alloc, rules, expected, input, made) {
         Ok(imported) => reported(alloc, imported, &mut out, &mut errors),
         Err(unimported) => {
             let Unimported { fault, writer } = unimported;
@@ -497,7 +497,7 @@ where
     W: Write,
     E: Write,
     ensures reported { result.0 ≡ number Accepted → Keeps (T.contents (inner imported.writer)) (T.contents (inner result.1))
-        × Appends (W.contents (inner out.old)) (W.contents (inner out.new)) (reported_text imported.names imported.operations) }
+        × Appends (W.contents (inner out.old)) (W.contents (inner out.new)) (reported_text imported.names imported.unknown.items imported.operations) }
     ensures other { (result.0 ≢ number Refused) × (result.0 ≢ number Faulty) }
 {
     let text = imported.reported(alloc);

@@ -20,7 +20,8 @@ use crate::output::{DraftFile, MadeFile, Printed, RecreatedFile};
 use crate::progress::{Cleared, Reading, Watched, begun, remove};
 use cops_command::Status;
 use cops_command_line::{Job, line};
-use cops_import::{ImportFault, Surveyed, Versions, survey};
+use cops_import::{Expected, ImportFault, Surveyed, Versions, survey, survey_outcomes};
+use cops_outcomes::Writes;
 use cops_types::Counted;
 use std::alloc::AllocError;
 use std::fs::File;
@@ -41,12 +42,6 @@ const LOOKS_LIKE_LINES: &str = "this looks like JSON Lines, which `cops import` 
 
 /// The message where there are no words and standard input is a terminal.
 const WAITS: &str = "waiting for a trace on standard input";
-
-/// What is known of an input of which no lines were surveyed.
-const UNSURVEYED: Surveyed = Surveyed {
-    clients: 0,
-    versions: Versions::Plain,
-};
 
 /// Prints why the program failed, and returns the status.
 fn failed<R: Eprint>(rt: &R, why: &str, status: Status) -> u8
@@ -240,7 +235,7 @@ where
     let begun = begun(rt, (is_read_whole || is_check) && errors.is_terminal());
     let mut input = Counted::new(Watched::new(rt, source, reading, begun));
     let outputs = outputs(rt, made, errors, begun);
-    let Ended { status, outputs } = command(rt, job, UNSURVEYED, &mut input, outputs);
+    let Ended { status, outputs } = command(rt, job, unsurveyed(rt), &mut input, outputs);
     let Outputs { made, .. } = outputs;
     close_made(rt, output_of(job), made.into_inner());
     let reads_trace = is_read_whole || matches!(job, Job::Show { .. });
@@ -250,7 +245,18 @@ where
     status
 }
 
-/// Runs an import, with versions by their ranks or as they stand. Its lines are read twice: first to survey them.
+/// What is known of an input of which no lines were surveyed.
+fn unsurveyed<R: AllocGlobal>(rt: &R) -> Surveyed {
+    Surveyed {
+        expected: Expected {
+            clients: 0,
+            unknown: Writes::new(rt.alloc()),
+        },
+        versions: Versions::Plain,
+    }
+}
+
+/// Runs an import, with versions by their ranks or as they stand. Its lines are read first to survey them.
 fn perform_import<R, S, E>(
     rt: &R,
     wanted: (Job<'_>, bool),
@@ -293,7 +299,8 @@ where
     status
 }
 
-/// What a survey of the lines finds, and the lines as a file that is at its beginning again.
+/// What a survey of the lines finds, and the lines as a file that is at its beginning again. If there are puts of unknown
+/// outcome, the lines are read once more for these.
 fn surveyed_lines<R, S>(
     rt: &R,
     source: Source<S>,
@@ -316,12 +323,28 @@ where
     let mut file = Counted::new(Watched::new(rt, file, Reading::Lines("counting"), begun));
     let surveyed = match survey(rt.alloc(), is_ranked, &mut file) {
         Ok(surveyed) => surveyed,
-        Err(ImportFault::Memory) => return Err(NoLines::Memory),
-        Err(ImportFault::Endless) => return Err(NoLines::Endless),
-        Err(_) => return Err(NoLines::Read),
+        Err(fault) => return Err(not_surveyed(fault)),
+    };
+    let file = rewound(file.into_inner().into_inner())?;
+    if surveyed.expected.unknown.is_empty() {
+        return Ok((surveyed, file));
+    }
+    let mut file = Counted::new(Watched::new(rt, file, Reading::Lines("counting"), begun));
+    let surveyed = match survey_outcomes(rt.alloc(), surveyed, &mut file) {
+        Ok(surveyed) => surveyed,
+        Err(fault) => return Err(not_surveyed(fault)),
     };
     let file = rewound(file.into_inner().into_inner())?;
     Ok((surveyed, file))
+}
+
+/// Why there are no lines, if they were not surveyed.
+fn not_surveyed(fault: ImportFault) -> NoLines {
+    match fault {
+        ImportFault::Memory => NoLines::Memory,
+        ImportFault::Endless => NoLines::Endless,
+        _ => NoLines::Read,
+    }
 }
 
 /// The writer for the trace of an import. A file gets the trace only when it is whole.

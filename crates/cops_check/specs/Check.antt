@@ -1,41 +1,53 @@
 -- What a check says of lines, and what it writes.
-use Rattle.std.specs.Prelude.{◌≡◌, ◌⊎◌, ℕ, Bool, true, false, List, ◌++◌, length, map, Option, Some, None}
+use Rattle.std.specs.Prelude.{◌≡◌, ◌⊎◌, ℕ, Bool, true, false, List, ◌++◌, map, Option, Some, None}
 use Rattle.std.specs.Global.{Vec}
 use Rattle.std.specs.Io.KnownBytes.{Appends}
 use Rattle.cops_types.specs.Convergence.{IsCausallyConvergent}
 use Rattle.cops_types.specs.declared.format.Format.TheVariants.{Two}
 use Rattle.cops_types.specs.declared.selection.Selection.{Selection}
-use Rattle.cops_trace.specs.Text.{IsTrace, sessions_of}
+use Rattle.cops_trace.specs.Text.{ATrace, IsTrace, sessions_of}
 use Rattle.cops_explain.specs.declared.naming.Naming.{Naming}
 use Rattle.cops_explain.specs.declared.naming.Naming.TheVariants.{Lines}
 use Rattle.cops_explain_json.specs.Faulty.{faulty_json}
 use Rattle.cops_explain_json.specs.Objects.{line_text}
-use Rattle.cops_import.specs.Faults.{IsFirstFaulty}
+use Rattle.cops_import.specs.Faults.{IsWrongLine}
 use Rattle.cops_import.specs.Line.{AreRead}
-use Rattle.cops_import.specs.Lines.{LinesGive, lines, names_of, records_of, trace_of}
+use Rattle.cops_import.specs.Lines.{LinesGive, lines, names_of, ops_of, trace_of}
 use Rattle.cops_import.specs.Words.{faulty_line, words_of}
 use Rattle.cops_import.specs.declared.fault.JsonLineFault.{JsonLineFault}
-use Rattle.cops_import.specs.declared.line.LineOp.{LineOp}
+use Rattle.cops_import.specs.Outcomes.{outcome_counts, outcomes_of, took_effect}
+use Rattle.cops_import.specs.declared.outcome.Outcome.{Outcome}
+use Rattle.cops_import.specs.declared.reported.Reported.{Reported}
 use Rattle.cops_import.specs.declared.rules.Rules.{Rules}
 use Rattle.cops_audit_commands.specs.declared.audit.Answer.{Answer}
 use Rattle.cops_audit_commands.specs.declared.audit.Answer.TheVariants.{Faulty}
 use Rattle.cops_audit_commands.specs.declared.explain.Request.{Request}
 use Rattle.cops_audit_commands.specs.Explain.{IsDrawing, IsExplanation}
-use Rattle.cops_check.specs.Numbers.{numbers_from, op_lines}
+use Rattle.cops_check.specs.Numbers.{numbers_from, op_lines, trace_lines}
+
+-- the names of the clients of puts of unknown outcome that took effect
+abbrev pub own_names : List Outcome → List (List ℕ)
+own_names unknown = map (λ o. o.name) (took_effect unknown)
+
+-- what the lines of a text call the operations of this trace, whose clients have these names, and in which these puts of unknown outcome took effect or
+-- are left out
+abbrev pub naming_in : List ℕ → List (List ℕ) → List Outcome → ATrace → Naming
+naming_in bytes names unknown trace = Lines (record {
+  names = names ++ own_names unknown;
+  lines = op_lines trace.clients (map (λ r. r.client) trace.records) (trace_lines (numbers_from 1 (lines bytes)) unknown);
+  outcomes = outcome_counts unknown;
+})
 
 -- what the lines of a text call these operations: by the names of their clients and the numbers of their lines
-abbrev pub naming_of : List ℕ → List LineOp → Naming
-naming_of bytes given = Lines (record {
-  names = names_of given;
-  lines = op_lines (length (names_of given)) (map (λ r. r.client) (records_of given)) (numbers_from 1 (lines bytes));
-})
+abbrev pub naming_of : Rules → List ℕ → List Reported → Naming
+naming_of rules bytes given = naming_in bytes (names_of (ops_of given)) (outcomes_of given) (trace_of rules.format given)
 
 -- lines are read in format 2, and their versions by their ranks or as they stand
 abbrev pub AreRules : Bool → Rules → Type 0
 AreRules is_ranked rules = (rules.format ≡ Two) × AreRead is_ranked rules.versions
 
 -- all lines of the text together describe these operations, and their trace is within the limits
-pub record Describes (rules : Rules) (bytes : List ℕ) (given : List LineOp) : Type 0 where
+pub record Describes (rules : Rules) (bytes : List ℕ) (given : List Reported) : Type 0 where
   pub report : LinesGive rules (lines bytes) given
   pub is_trace : IsTrace (trace_of rules.format given)
 
@@ -47,14 +59,14 @@ wrong_text true number fault = line_text (faulty_json (words_of fault) (Some num
 -- for a text of lines that are read so: the explanation of the trace that they describe, otherwise the first wrong line
 abbrev pub SaysBy : Rules → Request → List ℕ → Answer → List ℕ → Type 0
 SaysBy rules request bytes answer reported =
-    ((given : List LineOp) × Describes rules bytes given × IsExplanation (trace_of rules.format given) (naming_of bytes given) request answer reported)
-    ⊎ ((number : ℕ) × (fault : JsonLineFault) × IsFirstFaulty rules bytes number fault × (answer ≡ Faulty) × (reported ≡ wrong_text request.is_json number fault))
+    ((given : List Reported) × Describes rules bytes given × IsExplanation (trace_of rules.format given) (naming_of rules bytes given) request answer reported)
+    ⊎ ((number : ℕ) × (fault : JsonLineFault) × IsWrongLine rules bytes number fault × (answer ≡ Faulty) × (reported ≡ wrong_text request.is_json number fault))
 
 -- the picture of the fault that is asked for, none where a line is wrong
 abbrev pub DrawsBy : Rules → Selection → List ℕ → Option (Vec ℕ) → Type 0
 DrawsBy rules asked bytes picture =
-    ((given : List LineOp) × Describes rules bytes given × IsDrawing (trace_of rules.format given) (naming_of bytes given) asked picture)
-    ⊎ ((number : ℕ) × (fault : JsonLineFault) × IsFirstFaulty rules bytes number fault × (picture ≡ None))
+    ((given : List Reported) × Describes rules bytes given × IsDrawing (trace_of rules.format given) (naming_of rules bytes given) asked picture)
+    ⊎ ((number : ℕ) × (fault : JsonLineFault) × IsWrongLine rules bytes number fault × (picture ≡ None))
 
 abbrev pub CheckSays : Bool → Request → List ℕ → Answer → List ℕ → Type 0
 CheckSays is_ranked request bytes answer reported = (rules : Rules) × AreRules is_ranked rules × SaysBy rules request bytes answer reported
@@ -66,7 +78,7 @@ DrawingSays is_ranked asked bytes picture = (rules : Rules) × AreRules is_ranke
 pub record DescribesConvergent (is_ranked : Bool) (bytes : List ℕ) : Type 0 where
   pub rules : Rules
   pub are_rules : AreRules is_ranked rules
-  pub given : List LineOp
+  pub given : List Reported
   pub describes : Describes rules bytes given
   pub convergent : IsCausallyConvergent (sessions_of (trace_of rules.format given))
 

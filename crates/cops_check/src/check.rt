@@ -1,60 +1,79 @@
 //! The check of lines.
-ghost use Rattle.std.specs.Prelude.{◌≡◌, ◌⊎◌, [], Some, IfErr, IfOk, IfSome, IsErrOf, None, false, map, true};
+ghost use Rattle.std.specs.Prelude.{◌≡◌, ◌⊎◌, ◌++◌, [], Some, IfErr, IfOk, IfSome, IsErrOf, None, OnOk, false, map, true};
 ghost use Rattle.std.specs.Io.KnownBytes.{Keeps};
 ghost use Rattle.cops_types.specs.Counted.{failures, inner};
 ghost use Rattle.cops_types.specs.Failures.{ReportsFailure};
 ghost use Rattle.cops_import.specs.declared.rules.Rules.{Rules as ARules};
 ghost use Rattle.cops_import.specs.Imports.{IsImport};
-ghost use Rattle.cops_import.specs.Lines.{lines};
+ghost use Rattle.cops_import.specs.Line.{AreRead};
 ghost use Rattle.cops_audit_commands.specs.declared.audit.Answer.TheVariants as answer;
-ghost use Rattle.cops_explain.specs.declared.naming.Naming.TheVariants.{Lines};
-ghost use Rattle.cops_check.specs.Check.{CheckSays, DescribesConvergent, DrawingSays, DrawsBy, SaysBy, WritesChecked, WritesPrefixChecked, wrong_text};
-ghost use Rattle.cops_check.specs.Numbers.{numbers_from, op_lines};
+ghost use Rattle.cops_check.specs.Check.{CheckSays, DescribesConvergent, DrawingSays, DrawsBy, SaysBy, WritesChecked, WritesPrefixChecked, naming_in, own_names, wrong_text};
 
 use crate::fault::CheckFault;
-use crate::numbers::{line_numbers, op_lines};
+use crate::numbers::{line_numbers, op_lines, trace_lines};
 use cops_audit_commands::{Answer, Explained, ExplainedText, Request, explanation};
 use cops_command::read_all;
 use cops_explain::{LineNames, Naming};
 use cops_explain_json::faulty_json;
 use cops_import::{
-    ImportFault, Imported, JsonLineFault, Names, Rules, Surveyed, faulty_line, import_stream,
-    survey,
+    ImportFault, Imported, JsonLineFault, Name, Names, Outcome, Rules, Surveyed, faulty_line,
+    import_stream, outcome_counts, survey, survey_outcomes,
 };
 use cops_trace::{Trace, read_trace};
 use cops_types::{Counted, Format, write_text};
 use std::alloc::{AllocError, Global};
 use std::io::{Read, Write};
 
+/// A copy of a name's bytes.
+fn copied(alloc: Global, name: &Name) -> Result<Vec<u8>, AllocError>
+    ensures { IfOk result (λ copy. copy.items ≡ name.now) }
+{
+    let mut copy = Vec::new(alloc);
+    copy.extend_from_slice(name.as_bytes())?;
+    Ok(copy)
+}
+
 /// The names of clients, each at its client's number.
-fn copied(alloc: Global, names: &Names) -> Result<Vec<Vec<u8>>, AllocError>
+fn names_in(alloc: Global, names: &Names) -> Result<Vec<Vec<u8>>, AllocError>
     ensures { IfOk result (λ copies. map (λ name. name.items) copies.items ≡ names.now) }
 {
     let mut copies = Vec::new(alloc);
     for client in 0..names.len() {
-        let mut copy = Vec::new(alloc);
-        copy.extend_from_slice(names.name(client).as_bytes())?;
-        copies.push(copy)?;
+        copies.push(copied(alloc, names.name(client))?)?;
     }
     Ok(copies)
 }
 
-/// What the lines of a text call the operations of their trace, whose clients have these names.
+/// Adds the names of the clients of puts of unknown outcome that took effect.
+fn add_own(alloc: Global, copies: &mut Vec<Vec<u8>>, unknown: &[Outcome]) -> Result<(), AllocError>
+    ensures { OnOk result (map (λ name. name.items) copies.new.items ≡ map (λ name. name.items) copies.old.items ++ own_names unknown.now) }
+{
+    for outcome in unknown {
+        if outcome.version.is_some() {
+            copies.push(copied(alloc, &outcome.name)?)?;
+        }
+    }
+    Ok(())
+}
+
+/// What the lines of a text call the operations of their trace, whose clients have these names, and in which these puts of
+/// unknown outcome took effect or are left out.
 fn naming_of(
     alloc: Global,
     bytes: &[u8],
     names: &Names,
+    unknown: &[Outcome],
     trace: &Trace,
 ) -> Result<Naming, AllocError>
-    ensures { IfOk result (λ naming. naming ≡ Lines (record {
-      names = names.now;
-      lines = op_lines trace.now.clients (map (λ r. r.client) trace.now.records) (numbers_from 1 (lines bytes.now));
-    })) }
+    ensures { IfOk result (λ naming. naming ≡ naming_in bytes.now names.now unknown.now trace.now) }
 {
     let numbers = line_numbers(alloc, bytes)?;
+    let numbers = trace_lines(alloc, &numbers, unknown)?;
     let lines = op_lines(alloc, trace.clients(), trace.arrivals(), &numbers)?;
-    let names = copied(alloc, names)?;
-    Ok(Naming::Lines(LineNames::new(names, lines)))
+    let mut copies = names_in(alloc, names)?;
+    add_own(alloc, &mut copies, unknown)?;
+    let outcomes = outcome_counts(unknown);
+    Ok(Naming::Lines(LineNames::new(copies, lines, outcomes)))
 }
 
 /// What is said of the lines of a text, if this trace was imported of them.
@@ -64,14 +83,19 @@ fn judged(
     imported: Imported<Vec<u8>>,
     request: Request,
 ) -> Result<ExplainedText, CheckFault>
-    ensures says { (rules : ARules) → IsImport rules bytes.now (Some []) (Some (inner imported.writer).items) imported.names imported.operations
+    ensures says { (rules : ARules) → IsImport rules bytes.now (Some []) (Some (inner imported.writer).items) imported.names imported.unknown.items imported.operations
         → IfOk result (λ reported. SaysBy rules request bytes.now reported.explained.answer reported.text.items) }
-    ensures drawn { request.is_drawn ≡ true → (rules : ARules) → IsImport rules bytes.now (Some []) (Some (inner imported.writer).items) imported.names imported.operations
+    ensures drawn { request.is_drawn ≡ true → (rules : ARules) → IsImport rules bytes.now (Some []) (Some (inner imported.writer).items) imported.names imported.unknown.items imported.operations
         → IfOk result (λ reported. DrawsBy rules request.faults bytes.now reported.explained.picture) }
     ensures none { request.is_drawn ≡ false → IfOk result (λ reported. reported.explained.picture ≡ None) }
     ensures faults { IfErr result (λ e. e ≡ CheckFault.Memory) }
 {
-    let Imported { names, writer, .. } = imported;
+    let Imported {
+        names,
+        unknown,
+        writer,
+        ..
+    } = imported;
     let text = writer.into_inner();
     let trace = match read_trace(alloc, &mut Counted::new(text.as_slice())) {
         Ok(trace) => trace,
@@ -79,8 +103,26 @@ fn judged(
         Err(_) => return Err(CheckFault::Memory),
     };
     drop(text);
-    let naming = naming_of(alloc, bytes, &names, &trace)?;
+    let naming = naming_of(alloc, bytes, &names, &unknown, &trace)?;
     Ok(explanation(alloc, &trace, &naming, request)?)
+}
+
+/// What an import has to know of the lines of a text.
+fn surveyed(alloc: Global, bytes: &[u8], is_ranked: bool) -> Result<Surveyed, CheckFault>
+    ensures read { IfOk result (λ surveyed. AreRead is_ranked surveyed.versions) }
+    ensures faults { IfErr result (λ e. (e ≡ CheckFault.Memory) ⊎ (e ≡ CheckFault.Changed)) }
+{
+    let surveyed = match survey(alloc, is_ranked, &mut Counted::new(bytes)) {
+        Ok(surveyed) => surveyed,
+        Err(fault) => return Err(CheckFault::of_import(fault)),
+    };
+    if surveyed.expected.unknown.is_empty() {
+        return Ok(surveyed);
+    }
+    match survey_outcomes(alloc, surveyed, &mut Counted::new(bytes)) {
+        Ok(surveyed) => Ok(surveyed),
+        Err(fault) => Err(CheckFault::of_import(fault)),
+    }
 }
 
 /// What is said of a wrong line, in words or as JSON.
@@ -113,16 +155,13 @@ fn checked(
     ensures none { request.is_drawn ≡ false → IfOk result (λ reported. reported.explained.picture ≡ None) }
     ensures faults { IfErr result (λ e. (e ≡ CheckFault.Memory) ⊎ (e ≡ CheckFault.Changed)) }
 {
-    let Surveyed { clients, versions } = match survey(alloc, is_ranked, &mut Counted::new(bytes)) {
-        Ok(surveyed) => surveyed,
-        Err(fault) => return Err(CheckFault::of_import(fault)),
-    };
+    let Surveyed { expected, versions } = surveyed(alloc, bytes, is_ranked)?;
     let rules = Rules {
         format: Format::Two,
         versions,
     };
     let trace = Counted::new(Vec::new(alloc));
-    match import_stream(alloc, rules, clients, &mut Counted::new(bytes), trace) {
+    match import_stream(alloc, rules, expected, &mut Counted::new(bytes), trace) {
         Ok(imported) => judged(alloc, bytes, imported, request),
         Err(unimported) => match unimported.fault {
             ImportFault::Line { number, fault } => Ok(ExplainedText {

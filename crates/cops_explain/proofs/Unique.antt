@@ -10,6 +10,7 @@ use Rattle.cops_audit.specs.Verdicts.{IsVerdict, SameFaults, SameVerdict}
 use Rattle.cops_audit.proofs.Unique.{one_listing, same_verdict}
 use Rattle.cops_types.specs.Counts.{count_of, put_count}
 use Rattle.cops_types.specs.Texts.{◌⧺◌}
+use Rattle.cops_outcomes.specs.Words.{outcome_text}
 use Rattle.cops_report.proofs.ChainLaws.{one_first}
 use Rattle.cops_types.specs.declared.selection.Selection.{Selection}
 use Rattle.cops_types.specs.declared.selection.Selection.TheVariants.{First, All, One}
@@ -18,7 +19,7 @@ use Rattle.cops_audit.specs.declared.fault.Fault.{Fault}
 use Rattle.cops_audit.specs.declared.fault.Fault.TheVariants.{Doubled, NoSource, NotAbove, Stale}
 use Rattle.cops_audit.specs.Faults.{fault_of_number, faults_of}
 use Rattle.cops_explain.specs.Others.{AreOthers, IsOther}
-use Rattle.cops_explain.specs.Naming.{ANamedHistory}
+use Rattle.cops_explain.specs.Naming.{ANamedHistory, outcomes_of}
 use Rattle.cops_explain.specs.Paragraphs.{IsParagraph, Shows, cause_text, doubled_text, no_source_text, stale_text, title}
 use Rattle.cops_explain.specs.Explained.{AreParagraphs, IsExplained, ExplainsAsked, ExplainsOne, first_line, later_text, more_text}
 
@@ -92,7 +93,7 @@ same_explanation h (Refused a) (Refused b) asked x y s (t, p, e) (u, q, f) =
     let same : faults_of a ≡ faults_of b = same_faults a b s in
     let reported : t ≡ u = same_asked h (faults_of b) asked t u (subst (λ (fs : List Fault). ExplainsAsked h fs asked t) same p) q in
     e
-    ∙ ap₂ (λ (fs : List Fault) (r : List ℕ). first_line (count_of h.sessions) (put_count h.sessions) (length fs) ⧺ r) same (ap₂ (λ (r l : List ℕ). r ⧺ l) reported (same_later a b s))
+    ∙ ap₂ (λ (fs : List Fault) (r : List ℕ). first_line (count_of h.sessions) (put_count h.sessions) (length fs) ⧺ outcome_text (outcomes_of h.naming) ⧺ r) same (ap₂ (λ (r l : List ℕ). r ⧺ l) reported (same_later a b s))
     ∙ sym f
 same_explanation h (Accepted a) (Refused b) asked x y s e f = absurd s
 same_explanation h (Refused a) (Accepted b) asked x y s e f = absurd s

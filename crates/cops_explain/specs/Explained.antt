@@ -2,6 +2,7 @@
 use Rattle.std.specs.Prelude.{◌≡◌, ◌==◌, ◌+◌, ◌-◌, if◌then◌else◌, ℕ, zero, suc, List, [], ◌∷◌, ◌++◌, length, take, codes, decimal, Option, Some, None}
 use Rattle.cops_types.specs.Counts.{count_of, put_count}
 use Rattle.cops_types.specs.Texts.{◌⧺◌}
+use Rattle.cops_outcomes.specs.Words.{outcome_text}
 use Rattle.cops_audit.specs.declared.verdict.Verdict.{Verdict}
 use Rattle.cops_audit.specs.declared.verdict.Verdict.TheVariants.{Accepted, Refused}
 use Rattle.cops_audit.specs.declared.verdict.Faults.{Faults}
@@ -12,7 +13,7 @@ use Rattle.cops_types.specs.declared.selection.Selection.TheVariants.{First, All
 use Rattle.cops_explain.specs.declared.limits.TheConstants.{FIRST_FAULTS}
 use Rattle.cops_audit.specs.declared.fault.Fault.{Fault}
 use Rattle.cops_audit.specs.Faults.{fault_of_number, faults_of}
-use Rattle.cops_explain.specs.Naming.{ANamedHistory}
+use Rattle.cops_explain.specs.Naming.{ANamedHistory, outcomes_of}
 use Rattle.cops_explain.specs.Paragraphs.{IsParagraph}
 
 -- a paragraph for each fault, numbered from this number on
@@ -69,9 +70,10 @@ abbrev pub AddsAsked : ANamedHistory → List Fault → Selection → List ℕ �
 AddsAsked h faults asked old new = (reported : List ℕ) × ExplainsAsked h faults asked reported × (new ≡ old ++ reported)
 
 -- for an accepted history the line of the report; otherwise the numbers of operations, puts and faults, the explanation of the faults that are asked
--- for, and the classes that were not looked for
+-- for, and the classes that were not looked for. After the first line comes that of the puts of unknown outcome, if there are any
 abbrev pub IsExplained : ANamedHistory → Verdict → Selection → List ℕ → Type 0
-IsExplained h (Accepted puts) asked text = text ≡ accepted_line (count_of h.sessions) (put_count h.sessions)
+IsExplained h (Accepted puts) asked text = text ≡ accepted_line (count_of h.sessions) (put_count h.sessions) ⧺ outcome_text (outcomes_of h.naming)
 IsExplained h (Refused faults) asked text = (reported : List ℕ)
     × ExplainsAsked h (faults_of faults) asked reported
-    × (text ≡ first_line (count_of h.sessions) (put_count h.sessions) (length (faults_of faults)) ⧺ reported ⧺ later_text faults)
+    × (text ≡ first_line (count_of h.sessions) (put_count h.sessions) (length (faults_of faults))
+    ⧺ outcome_text (outcomes_of h.naming) ⧺ reported ⧺ later_text faults)

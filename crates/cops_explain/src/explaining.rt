@@ -1,13 +1,15 @@
-ghost use Rattle.std.specs.Prelude.{◌≡◌, ◌++◌, take, string_bytes, IfOk, OnOk};
+ghost use Rattle.std.specs.Prelude.{◌≡◌, ◌++◌, length, take, string_bytes, IfOk, OnOk};
+ghost use Rattle.cops_types.specs.Counts.{count_of, put_count};
+ghost use Rattle.cops_outcomes.specs.Words.{outcome_text};
 ghost use Rattle.cops_audit.specs.Verdicts.{IsVerdict};
 ghost use Rattle.cops_audit.specs.Faults.{faults_of};
 ghost use Rattle.cops_explain.specs.Explained.{AddsAsked, AddsParagraphs, IsExplained, counted, first_line, later_text, more_text};
 ghost use Rattle.cops_explain.specs.Refused.{HasItsFaults, HasItsPuts, history_of};
-ghost use Rattle.cops_explain.specs.Naming.{named_of};
+ghost use Rattle.cops_explain.specs.Naming.{named_of, outcomes_of};
 
 use crate::contents::Written;
 use crate::limits::FIRST_FAULTS;
-use crate::naming::NamedHistory;
+use crate::naming::{NamedHistory, Naming};
 use crate::paragraphs::push_paragraph;
 use crate::refused::Refused;
 use cops_audit::{Faults, Verdict};
@@ -105,6 +107,24 @@ fn first_line(
     Ok(line)
 }
 
+/// The first line of a refusal, and the line of the puts of unknown outcome, if there are any.
+fn opening(refused: Refused<'_>) -> Result<String, AllocError>
+    ensures { IfOk result (λ text. let h = history_of refused.entry in
+        string_bytes text ≡ first_line (count_of h.sessions) (put_count h.sessions) (length (faults_of refused.entry.faults.now))
+        ++ outcome_text (outcomes_of h.naming)) }
+{
+    let history = refused.named.history;
+    let outcomes = refused.named.naming.outcomes();
+    let mut text = first_line(
+        refused.alloc,
+        history.len(),
+        history.puts(),
+        refused.faults.len(),
+    )?;
+    text.push_str(outcomes.text(refused.alloc)?.as_str())?;
+    Ok(text)
+}
+
 /// The classes that were not looked for, in a line after an empty one.
 fn later(faults: &Faults) -> &'static str
     ensures { result.now ≡ later_text faults.now }
@@ -119,8 +139,8 @@ fn later(faults: &Faults) -> &'static str
     }
 }
 
-/// The first line of a refusal, the explanation of the faults that are asked for, and which classes were not looked
-/// for.
+/// The first line of a refusal, the line of the puts of unknown outcome, if there are any, the explanation of the
+/// faults that are asked for, and which classes were not looked for.
 fn refusal(
     alloc: Global,
     named: NamedHistory<'_>,
@@ -130,24 +150,33 @@ fn refusal(
     requires { IsVerdict named.history.now.sessions (Verdict.Refused faults.now) }
     ensures { IfOk result (λ text. IsExplained (named_of named.entry) (Verdict.Refused faults.now) asked text.items) }
 {
-    let history = named.history;
-    let puts = put_table(alloc, history)?;
+    let puts = put_table(alloc, named.history)?;
     let refused = Refused {
         alloc,
         named,
         puts: &puts,
         faults,
     };
-    let mut text = first_line(alloc, history.len(), history.puts(), faults.len())?;
+    let mut text = opening(refused)?;
     push_asked(&mut text, refused, asked)?;
     text.push_str(later(faults))?;
     Ok(text.into_bytes())
 }
 
+/// A text with the line of the puts of unknown outcome after it, if there are any.
+fn with_outcomes(alloc: Global, mut text: Vec<u8>, naming: &Naming) -> Result<Vec<u8>, AllocError>
+    ensures { IfOk result (λ with. with.items ≡ text.items ++ outcome_text (outcomes_of naming.now)) }
+{
+    let outcomes = naming.outcomes().text(alloc)?;
+    text.extend_from_slice(outcomes.as_bytes())?;
+    Ok(text)
+}
+
 /// The text that explains a verdict on a history, whose operations are called as its naming says. Each line ends with a
 /// line feed. For an accepted history it is the report's line, whatever is asked for. For a refused one it is a line
 /// with the numbers of operations, puts and faults, and then, each after an empty line, a paragraph for each fault that
-/// is asked for, in order of names.
+/// is asked for, in order of names. Where lines have puts of unknown outcome, the second line says how many of them
+/// took effect, and how many are left out of the history.
 ///
 /// A paragraph has the fault's number, counted from 1, its class and its name; what happened, with keys, values and
 /// versions; the operations that show it, which for a stale get are the chain of `chain` from the newer put, and the
@@ -169,7 +198,10 @@ pub fn explain(
     ensures { IfOk result (λ text. IsExplained (named_of named.entry) verdict.now asked text.items) }
 {
     match verdict {
-        Verdict::Accepted(_) => report(alloc, named.history, verdict),
+        Verdict::Accepted(_) => {
+            let text = report(alloc, named.history, verdict)?;
+            Ok(with_outcomes(alloc, text, named.naming)?)
+        }
         Verdict::Refused(faults) => refusal(alloc, named, faults, asked),
     }
 }

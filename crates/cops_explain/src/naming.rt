@@ -1,13 +1,15 @@
-//! What the operations of a history are called.
+//! What the operations of a history are called, and how many puts of unknown outcome it has.
+use cops_outcomes::OutcomeCounts;
 use cops_types::{History, OpName};
 use std::marker::Model;
 
 /// What a recorder's lines call operations: the name of each client, and for each client the numbers of the lines of
-/// its operations, counted from 1, in their order.
+/// its operations, counted from 1, in their order. With them, how many puts of unknown outcome the lines have.
 #[derive(Debug, Drop)]
 pub struct LineNames {
     names: Vec<Vec<u8>>,
     lines: Vec<Vec<u64>>,
+    outcomes: OutcomeCounts,
 }
 
 impl Model for LineNames {
@@ -16,17 +18,22 @@ impl Model for LineNames {
 
     ghost Value = { ALineNames };
 
-    ghost view = { λ n. record { names = map (λ name. name.items) n.names.items; lines = map (λ lines. lines.items) n.lines.items } };
+    ghost view = { λ n. record { names = map (λ name. name.items) n.names.items; lines = map (λ lines. lines.items) n.lines.items; outcomes = n.outcomes } };
 }
 
 impl LineNames {
     ghost use Rattle.std.specs.Prelude.{◌≡◌, [], map, slice_index_or};
 
-    /// The names of clients, each at its client's number, and the numbers of the lines of their operations.
-    pub fn new(names: Vec<Vec<u8>>, lines: Vec<Vec<u64>>) -> LineNames
-        ensures { result ≡ record { names = map (λ name. name.items) names.items; lines = map (λ lines. lines.items) lines.items } }
+    /// The names of clients, each at its client's number, the numbers of the lines of their operations, and how many
+    /// puts of unknown outcome there are.
+    pub fn new(names: Vec<Vec<u8>>, lines: Vec<Vec<u64>>, outcomes: OutcomeCounts) -> LineNames
+        ensures { result ≡ record { names = map (λ name. name.items) names.items; lines = map (λ lines. lines.items) lines.items; outcomes = outcomes } }
     {
-        LineNames { names, lines }
+        LineNames {
+            names,
+            lines,
+            outcomes,
+        }
     }
 
     /// The name of a client, empty for a client without one.
@@ -57,6 +64,24 @@ pub enum Naming {
     Trace,
     /// As in a recorder's lines: a client by its name, and an operation by its client and the number of its line.
     Lines(LineNames),
+}
+
+impl Naming {
+    ghost use Rattle.std.specs.Prelude.{◌≡◌};
+    ghost use Rattle.cops_explain.specs.Naming.{outcomes_of};
+
+    /// How many puts of unknown outcome there are: none in a trace.
+    pub fn outcomes(&self) -> OutcomeCounts
+        ensures { result ≡ outcomes_of self.now }
+    {
+        match self {
+            Naming::Trace => OutcomeCounts {
+                took_effect: 0,
+                left_out: 0,
+            },
+            Naming::Lines(names) => names.outcomes,
+        }
+    }
 }
 
 /// A history, and what its operations are called.

@@ -14,7 +14,7 @@ use Rattle.serde_json.specs.View.{items_of}
 use Rattle.serde_json.specs.Written.{has_float, items_have_float, members_have_float}
 use Rattle.cops_json.specs.Json.{number_json, text_json}
 use Rattle.cops_types.specs.declared.op.OpName.{OpName}
-use Rattle.cops_types.specs.Histories.{Sessions, Operation, write, read, missed, op_at}
+use Rattle.cops_types.specs.Histories.{Operation, write, read, missed, op_at}
 use Rattle.cops_types.specs.declared.selection.Selection.{Selection}
 use Rattle.cops_types.specs.declared.selection.Selection.TheVariants.{First, All, One}
 use Rattle.cops_audit.specs.declared.fault.Fault.{Fault}
@@ -24,13 +24,15 @@ use Rattle.cops_audit.specs.declared.verdict.Verdict.TheVariants.{Accepted, Refu
 use Rattle.cops_audit.specs.declared.verdict.Faults.{Faults}
 use Rattle.cops_audit.specs.Faults.{faults_of, fault_of_number, op_of}
 use Rattle.cops_explain.specs.declared.limits.TheConstants.{FIRST_FAULTS, MOST_OTHERS}
-use Rattle.cops_explain.specs.Naming.{ANamedHistory}
+use Rattle.cops_outcomes.specs.declared.counts.OutcomeCounts.{OutcomeCounts}
+use Rattle.cops_outcomes.specs.Words.{has_none}
+use Rattle.cops_explain.specs.Naming.{ANamedHistory, outcomes_of}
 use Rattle.cops_explain.specs.declared.naming.Naming.{Naming}
 use Rattle.cops_explain.specs.declared.naming.Naming.TheVariants.{Trace, Lines}
 use Rattle.cops_explain_json.specs.Objects.{Member, object_json, with_member, with_members}
 use Rattle.cops_explain_json.specs.Operations.{act_members, client_name, did_members, line_members, name_members, operation_json, operation_members, operations_json, value_member, version_json}
 use Rattle.cops_explain_json.specs.Faults.{AreFaults, IsFaultJson, Show}
-use Rattle.cops_explain_json.specs.Explanations.{AreAsked, IsOne, IsVerdictJson, later_classes, refusal_members, texts_json, verdict_members}
+use Rattle.cops_explain_json.specs.Explanations.{AreAsked, IsOne, IsVerdictJson, later_classes, outcome_members, outcomes_json, refusal_members, texts_json, verdict_members}
 use Rattle.cops_explain_json.specs.Faulty.{at_line, faulty_json}
 
 abbrev pub HasNoFloat : Data → Type 0
@@ -135,21 +137,31 @@ texts_none : (texts : List (List ℕ)) → HasNoFloat (texts_json texts)
 texts_none [] = refl
 texts_none (text ∷ texts) = texts_none texts
 
-verdict_members_none : (h : Sessions) (verdict : List ℕ) (faults : ℕ) → NoFloats (verdict_members h verdict faults)
-verdict_members_none h verdict faults = (refl, (refl, (refl, (refl, tt))))
+-- a member that is there unless a test holds
+unless_none : (name : List ℕ) (json : Data) (test : Bool) → HasNoFloat json → NoFloats (cond test [] ((name, json) ∷ []))
+unless_none name json true is = tt
+unless_none name json false is = (is, tt)
+
+outcomes_none : (counts : OutcomeCounts) → NoFloats (outcome_members counts)
+outcomes_none counts =
+    let numbers : List Member = (codes "took_effect", number_json counts.took_effect) ∷ (codes "left_out", number_json counts.left_out) ∷ [] in
+    unless_none (codes "unknown_outcomes") (outcomes_json counts) (has_none counts) (object_none numbers (refl, (refl, tt)))
+
+verdict_members_none : (named : ANamedHistory) (verdict : List ℕ) (faults : ℕ) → NoFloats (verdict_members named verdict faults)
+verdict_members_none named verdict faults = (refl, (refl, (refl, (refl, outcomes_none (outcomes_of named.naming)))))
 
 refusal_none : (faults : Faults) (list : List Data) → items_have_float (items_of list) ≡ false → NoFloats (refusal_members faults list)
 refusal_none faults list none = (refl, (none, (texts_none (later_classes faults), tt)))
 
 pub verdict_none : (named : ANamedHistory) (verdict : Verdict) (asked : Selection) (json : Data) → IsVerdictJson named verdict asked json → HasNoFloat json
 verdict_none named (Accepted puts) asked json is =
-    let numbers = verdict_members named.sessions (codes "accepted") 0 in
-    subst HasNoFloat (sym is) (object_none numbers (verdict_members_none named.sessions (codes "accepted") 0))
+    let numbers = verdict_members named (codes "accepted") 0 in
+    subst HasNoFloat (sym is) (object_none numbers (verdict_members_none named (codes "accepted") 0))
 verdict_none named (Refused faults) asked json (list, are, is) =
     let count = length (faults_of faults) in
-    let numbers = verdict_members named.sessions (codes "refused") count in
+    let numbers = verdict_members named (codes "refused") count in
     let rest = refusal_members faults list in
-    let none = none-append numbers rest (verdict_members_none named.sessions (codes "refused") count) (refusal_none faults list (asked_none named (faults_of faults) asked list are)) in
+    let none = none-append numbers rest (verdict_members_none named (codes "refused") count) (refusal_none faults list (asked_none named (faults_of faults) asked list are)) in
     subst HasNoFloat (sym is) (object_none (numbers ++ rest) none)
 
 at_line_none : (line : Option ℕ) → NoFloats (at_line line)

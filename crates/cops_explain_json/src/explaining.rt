@@ -4,12 +4,13 @@ ghost use Rattle.cops_audit.specs.Faults.{faults_of};
 ghost use Rattle.cops_audit.specs.Verdicts.{IsVerdict};
 ghost use Rattle.cops_explain_json.specs.Objects.{members_in, object_json, with_members};
 ghost use Rattle.cops_explain_json.specs.Operations.{seen};
-ghost use Rattle.cops_explain_json.specs.Explanations.{AreAsked, IsExplainedJson, IsVerdictJson, class_text, later_classes, refusal_members, texts_json, verdict_members};
+ghost use Rattle.cops_explain_json.specs.Explanations.{AreAsked, IsExplainedJson, IsVerdictJson, class_text, later_classes, outcome_members, outcomes_json, refusal_members, texts_json, verdict_members};
 
 use crate::faults::{faults_json, one_fault};
 use crate::object::{Object, line_of};
 use cops_audit::{Faults, Verdict};
 use cops_explain::{FIRST_FAULTS, NamedHistory, Naming};
+use cops_outcomes::OutcomeCounts;
 use cops_report::put_table;
 use cops_types::{History, Memory, Selection};
 use serde_json::{Value as Json, json};
@@ -33,19 +34,45 @@ fn asked_json(
     }
 }
 
-/// Adds the verdict, and the numbers of operations, puts and faults.
-fn add_verdict(
+/// How many puts of unknown outcome took effect, and how many are left out.
+fn outcomes_json(alloc: Global, outcomes: OutcomeCounts) -> Result<Json, AllocError>
+    ensures { IfOk result (λ json. view json ≡ outcomes_json outcomes) }
+{
+    let mut object = Object::new(alloc);
+    object.add_number("took_effect", outcomes.took_effect as u64)?;
+    object.add_number("left_out", outcomes.left_out as u64)?;
+    Ok(object.into_json())
+}
+
+/// Adds the puts of unknown outcome, if there are any.
+fn add_outcomes(
+    alloc: Global,
     object: &mut Object,
-    history: &History,
+    outcomes: OutcomeCounts,
+) -> Result<(), AllocError>
+    ensures { OnOk result (members_in object.new ≡ with_members (members_in object.old) (outcome_members outcomes)) }
+{
+    if outcomes.is_empty() {
+        return Ok(());
+    }
+    object.add("unknown_outcomes", outcomes_json(alloc, outcomes)?)
+}
+
+/// Adds the verdict, the numbers of operations, puts and faults, and the puts of unknown outcome, if there are any.
+fn add_verdict(
+    alloc: Global,
+    object: &mut Object,
+    named: &NamedHistory<'_>,
     verdict: &str,
     faults: usize,
 ) -> Result<(), AllocError>
-    ensures { OnOk result (members_in object.new ≡ with_members (members_in object.old) (verdict_members history.now.sessions verdict.now faults)) }
+    ensures { OnOk result (members_in object.new ≡ with_members (members_in object.old) (verdict_members (seen named.now) verdict.now faults)) }
 {
     object.add_text("verdict", verdict)?;
-    object.add_number("operations", history.len() as u64)?;
-    object.add_number("puts", history.puts() as u64)?;
-    object.add_number("faults", faults as u64)
+    object.add_number("operations", named.history.len() as u64)?;
+    object.add_number("puts", named.history.puts() as u64)?;
+    object.add_number("faults", faults as u64)?;
+    add_outcomes(alloc, object, named.naming.outcomes())
 }
 
 /// The name of the class of faults.
@@ -87,11 +114,11 @@ fn add_refusal(
 }
 
 /// The object of an accepted history.
-fn accepted_json(alloc: Global, history: &History) -> Result<Json, AllocError>
-    ensures { IfOk result (λ json. view json ≡ object_json (verdict_members history.now.sessions (codes "accepted") 0)) }
+fn accepted_json(alloc: Global, named: &NamedHistory<'_>) -> Result<Json, AllocError>
+    ensures { IfOk result (λ json. view json ≡ object_json (verdict_members (seen named.now) (codes "accepted") 0)) }
 {
     let mut object = Object::new(alloc);
-    add_verdict(&mut object, history, "accepted", 0)?;
+    add_verdict(alloc, &mut object, named, "accepted", 0)?;
     Ok(object.into_json())
 }
 
@@ -107,7 +134,7 @@ fn refused_json(
 {
     let explained = asked_json(alloc, named, faults, asked)?;
     let mut object = Object::new(alloc);
-    add_verdict(&mut object, named.history, "refused", faults.len())?;
+    add_verdict(alloc, &mut object, named, "refused", faults.len())?;
     add_refusal(alloc, &mut object, faults, explained)?;
     Ok(object.into_json())
 }
@@ -123,14 +150,16 @@ fn verdict_json(
     ensures { IfOk result (λ json. IsVerdictJson (seen named.now) verdict.now asked (view json)) }
 {
     match verdict {
-        Verdict::Accepted(_) => Ok(accepted_json(alloc, named.history)?),
+        Verdict::Accepted(_) => Ok(accepted_json(alloc, named)?),
         Verdict::Refused(faults) => refused_json(alloc, named, faults, asked),
     }
 }
 
 /// The explanation of a verdict on a history, for programs: one JSON object in a line that ends with a line feed. It
-/// has the verdict, and how many operations, puts and faults there are. That of a refused history also has the class of
-/// the faults, an object for each fault that is asked for, in order of names, and the classes that were not looked for.
+/// has the verdict, and how many operations, puts and faults there are. Where lines have puts of unknown outcome, it
+/// also has how many of them took effect, and how many are left out of the history. That of a refused history also has
+/// the class of the faults, an object for each fault that is asked for, in order of names, and the classes that were
+/// not looked for.
 ///
 /// A fault's object has its number, counted from 1 among all faults, what its operation is called and did, and the
 /// operations that show it: for a doubled put and a get without a source the first 20 other puts of its version, and

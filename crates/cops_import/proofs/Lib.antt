@@ -2,8 +2,13 @@ pub mod Asked
 pub mod OfKind
 pub mod InOrder
 pub mod Numbering
+pub mod Given
 pub mod Splitting
 pub mod Records
+pub mod Taking
+pub mod Own
+pub mod Asking
+pub mod Ends
 pub mod Stops
 pub mod Steps
 pub mod Inputs

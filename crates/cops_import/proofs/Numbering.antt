@@ -1,15 +1,17 @@
 -- A name keeps its number when others are added.
-use Rattle.std.proofs.Common.{◌≡◌, ◌+◌, ℕ, Bool, true, false, cond, ◌||◌, List, [], ◌∷◌, ◌++◌, map, refl, sym, ap, ◌∙◌, inl, inr}
+use Rattle.std.proofs.Common.{◌≡◌, ◌==◌, ◌+◌, ◌<◌, ◌≤◌, ℕ, Bool, true, false, cond, ◌||◌, List, [], ◌∷◌, ◌++◌, length, map, refl, sym, ap, ◌∙◌, inl, inr, arith}
 use Rattle.std.specs.Prelude.{not, fold}
 use Rattle.std.specs.List.{list_any}
-use Rattle.std.proofs.lemmas.Bool.{cases_Bool}
+use Rattle.std.proofs.lemmas.Bool.{cases_Bool, ne_eqb}
 use Rattle.std.proofs.lemmas.List.Folds.{list_any-append}
 use Rattle.std.proofs.lemmas.List.Sums.{fold-append}
 use Rattle.std.proofs.lemmas.Slice.Eq.{bytes_eq-Decides}
 use Rattle.cops_types.specs.Operations.{operation_of}
-use Rattle.cops_import.specs.Lines.{names_of, record_of}
+use Rattle.cops_trace.specs.Text.{turn}
+use Rattle.cops_trace.proofs.Lists.{turn-cons}
+use Rattle.cops_import.specs.Lines.{names_of, record_of, records_of}
 use Rattle.cops_import.specs.Names.{number_of, same, with_name}
-use Rattle.cops_import.specs.declared.line.LineOp.{LineOp}
+use Rattle.cops_import.specs.declared.reported.LineOp.{LineOp}
 
 same_self : (name : List ℕ) → same name name ≡ true
 same_self name = (bytes_eq-Decides name name).1 refl
@@ -97,3 +99,27 @@ number_own names name = elim (cases_Bool (is_among names name)) [
 
 pub names_more : (given : List LineOp) (reported : LineOp) → names_of (given ++ reported ∷ []) ≡ with_name (names_of given) reported.name
 names_more given reported = fold-append (λ (ns : List (List ℕ)) (t : LineOp). with_name ns t.name) [] given (reported ∷ [])
+
+-- a number of a name among the names is below their number
+number_within : (names : List (List ℕ)) (name : List ℕ) → is_among names name ≡ true → number_of names name < length names
+number_within [] name h = absurd cc
+number_within (n ∷ names) name h = elim (cases_Bool (same name n)) [
+  | inl p ↦ let zero : number_of (n ∷ names) name ≡ 0 = ap (λ (b : Bool). cond (not b) (1 + number_of names name) 0) p in omega (arith, zero)
+  | inr p ↦
+      let rest : is_among names name ≡ true = sym (ap (λ (b : Bool). b || is_among names name) p) ∙ h in
+      let next : number_of (n ∷ names) name ≡ 1 + number_of names name = ap (λ (b : Bool). cond (not b) (1 + number_of names name) 0) p in
+      omega (arith, next, number_within names name rest)
+]
+
+-- a client without a name has no record
+named_turn : (names : List (List ℕ)) (ops : List LineOp) (client : ℕ) → length (names_after names ops) ≤ client → turn client (map (record_of (names_after names ops)) ops) ≡ 0
+named_turn names [] client h = refl
+named_turn names (t ∷ ops) client h =
+    let all = names_after (with_name names t.name) ops in
+    let there : is_among all t.name ≡ true = among_after (with_name names t.name) ops t.name (among_own names t.name) in
+    let other : (number_of all t.name == client) ≡ false = ne_eqb (number_of all t.name) client (omega (arith, number_within all t.name there, h)) in
+    let none : cond {A = ℕ} (number_of all t.name == client) 1 0 ≡ 0 = ap (λ (b : Bool). cond {A = ℕ} b 1 0) other in
+    omega (arith, turn-cons client (record_of all t) (map (record_of all) ops), none, named_turn (with_name names t.name) ops client h)
+
+pub no_name_turn : (ops : List LineOp) (client : ℕ) → length (names_of ops) ≤ client → turn client (records_of ops) ≡ 0
+no_name_turn ops client h = named_turn [] ops client h

@@ -18,23 +18,25 @@ use Rattle.cops_trace.specs.Counts.{ACounts, AreCountsOf, HasTurn, counted, noth
 use Rattle.cops_trace.specs.Kept.{grown}
 use Rattle.cops_trace.specs.Live.{HasBegun, IsCutShort}
 use Rattle.cops_trace.specs.Live as live
-use Rattle.cops_trace.specs.Text.{ARecord, ATrace, IsOp, IsTrace, beginning, record_text, text, turn}
+use Rattle.cops_trace.specs.Text.{ARecord, ATrace, IsOp, beginning, record_text, text, turn}
 use Rattle.cops_trace.specs.Writing.{IsUnwritten, end_frame, head_frame, more_written, record_frame}
 use Rattle.cops_trace.specs.declared.fault.WriteFault.{WriteFault}
 use Rattle.cops_trace.specs.declared.fault.WriteFault.TheVariants as write
 use Rattle.cops_trace.specs.declared.writer.TraceWriter.{TraceWriter}
-use Rattle.cops_trace.proofs.Begun.{add_cut, cut_begun, cut_kept, new_cut, rest_cut}
+use Rattle.cops_trace.proofs.Begun.{add_cut, cut_begun, cut_kept, cut_none, new_cut, rest_cut}
 use Rattle.cops_trace.proofs.Allocation.{IsTrace-grown, IsTrace-none, beginning-grown, beginning-none}
 use Rattle.cops_trace.proofs.Readings.{prefix_len, text_len}
 use Rattle.cops_trace.proofs.Underway.{counts_grown, counts_none}
 use Rattle.cops_import.specs.Faults.{IsTooMany}
-use Rattle.cops_import.specs.Lines.{names_of, record_of, records_of, trace_of}
+use Rattle.cops_import.specs.Lines.{names_of, record_of, records_of}
 use Rattle.cops_import.specs.Names.{number_of, with_name}
-use Rattle.cops_import.specs.Underway.{HasLeft, HasTaken, HasWritten, format_of, trace_to}
+use Rattle.cops_import.specs.Underway.{HasLeft, HasOps, HasWritten, format_of, known_to}
 use Rattle.cops_import.specs.Writing.{fault_of}
+use Rattle.cops_import.specs.declared.fault.ImportFault.{ImportFault}
+use Rattle.cops_import.specs.declared.fault.ImportFault.TheVariants.{Memory}
 use Rattle.cops_import.specs.declared.fault.JsonLineFault.TheVariants.{TooManyOperations}
 use Rattle.cops_import.specs.declared.importer.Importer.{Importer}
-use Rattle.cops_import.specs.declared.line.LineOp.{LineOp}
+use Rattle.cops_import.specs.declared.reported.LineOp.{LineOp}
 use Rattle.cops_import.proofs.Numbering.{names_more, number_own, records_kept}
 
 -- ---- the trace with one more operation
@@ -42,7 +44,7 @@ use Rattle.cops_import.proofs.Numbering.{names_more, number_own, records_kept}
 abbrev entry : List LineOp → LineOp → ARecord
 entry given reported = record { client = number_of (names_of given) reported.name; op = operation_of reported.op }
 
-pub trace_more : (format : Format) (clients : ℕ) (given : List LineOp) (reported : LineOp) → trace_to format clients (given ++ reported ∷ []) ≡ grown (trace_to format clients given) (entry given reported)
+pub trace_more : (format : Format) (clients : ℕ) (given : List LineOp) (reported : LineOp) → known_to format clients (given ++ reported ∷ []) ≡ grown (known_to format clients given) (entry given reported)
 trace_more format clients given reported =
     let names = names_of given in
     let all = with_name names reported.name in
@@ -80,6 +82,14 @@ module _ {W : Type 0} (contents : W → Option (List ℕ)) (from : Counted W) wh
   pub cut_so_far : (t : ATrace) (w : TraceWriter W) → HasWritten contents from t w → (n : ℕ) × IsCutShort (contents (inner from)) (contents (inner w.writer)) n
   cut_so_far t w h = cut_begun (contents (inner from)) (contents (inner w.writer)) (beginning t) w.counts w.written (begun_of t w h)
 
+  -- nothing was written
+  pub left_nothing : HasLeft contents from Memory from
+  left_nothing = record { cut = (0, cut_none (contents (inner from))); heard = tt }
+
+  -- memory ran out
+  pub left_here : (t : ATrace) (w : TraceWriter W) (e : ImportFault) → HasWritten contents from t w → e ≡ Memory → HasLeft contents from e w.writer
+  left_here t w e h is = rw is (record { cut = cut_so_far t w h; heard = tt })
+
   left_of : (e : WriteFault) (w : Counted W) → live.IsCutBy e (contents (inner from)) (contents (inner w)) → (e ≢ write.Memory → Failed (failures from) (failures w))
       → HasLeft contents from (fault_of e) w
   left_of write.Memory w cut failed = record { cut = cut; heard = tt }
@@ -95,19 +105,21 @@ module _ {W : Type 0} (contents : W → Option (List ℕ)) (from : Counted W) wh
       (λ q. subst (λ (n : ℕ). Failed n (failures new.writer)) h.heard (failed q))
 
   -- one more operation was taken
-  pub taken_more : (given : List LineOp) (reported : LineOp) (old new : Importer W) (client : ℕ) → HasTaken contents from given old → new.clients ≡ old.clients → format_of new ≡ format_of old
+  pub ops_more : (given : List LineOp) (reported : LineOp) (old new : Importer W) (client : ℕ) → HasOps contents from given old → new.clients ≡ old.clients → format_of new ≡ format_of old
       → new.names ≡ with_name old.names reported.name → new.operations ≡ min (old.operations + 1) 18446744073709551615 → client ≡ number_of old.names reported.name
-      → HasTurn old.writer.counts client → HasWritten contents from (grown (trace_to (format_of old) old.clients given) (record { client = client; op = operation_of reported.op })) new.writer
-      → HasTaken contents from (given ++ reported ∷ []) new
-  taken_more given reported old new client h clients format names operations number room wrote =
-      let many : length (trace_to (format_of old) old.clients given).records ≡ length given = length-map given (record_of (names_of given)) in
+      → length new.names ≤ new.clients → HasTurn old.writer.counts client → HasWritten contents from (grown (known_to (format_of old) old.clients given) (record { client = client; op = operation_of reported.op })) new.writer
+      → HasOps contents from (given ++ reported ∷ []) new
+  ops_more given reported old new client h clients format names operations number few room wrote =
+      let many : length (known_to (format_of old) old.clients given).records ≡ length given = length-map given (record_of (names_of given)) in
       let entered : client ≡ number_of (names_of given) reported.name = number ∙ ap (λ (ns : List (List ℕ)). number_of ns reported.name) h.names in
-      let trace : grown (trace_to (format_of old) old.clients given) (record { client = client; op = operation_of reported.op }) ≡ trace_to (format_of new) new.clients (given ++ reported ∷ []) =
-      ap (λ (k : ℕ). grown (trace_to (format_of old) old.clients given) (record { client = k; op = operation_of reported.op })) entered ∙ sym (trace_more (format_of old) old.clients given reported)
-      ∙ ap (λ (k : ℕ). trace_to (format_of old) k (given ++ reported ∷ [])) (sym clients)
-      ∙ ap (λ (f : Format). trace_to f new.clients (given ++ reported ∷ [])) (sym format) in
+      let trace : grown (known_to (format_of old) old.clients given) (record { client = client; op = operation_of reported.op }) ≡ known_to (format_of new) new.clients (given ++ reported ∷ []) =
+      ap (λ (k : ℕ). grown (known_to (format_of old) old.clients given) (record { client = k; op = operation_of reported.op })) entered ∙ sym (trace_more (format_of old) old.clients given reported)
+      ∙ ap (λ (k : ℕ). known_to (format_of old) k (given ++ reported ∷ [])) (sym clients)
+      ∙ ap (λ (f : Format). known_to f new.clients (given ++ reported ∷ [])) (sym format) in
+      let all : new.names ≡ names_of (given ++ reported ∷ []) = names ∙ ap (λ (ns : List (List ℕ)). with_name ns reported.name) h.names ∙ sym (names_more given reported) in
       record {
-        names = names ∙ ap (λ (ns : List (List ℕ)). with_name ns reported.name) h.names ∙ sym (names_more given reported);
+        names = all;
+        few = omega (arith, few, ap length all);
         operations = omega (arith, operations, h.operations, length-append given (reported ∷ []), room.2, h.wrote.counts.total, many);
         wrote = subst (λ (t : ATrace). HasWritten contents from t new.writer) trace wrote;
       }
@@ -119,11 +131,11 @@ module _ {W : Type 0} (contents : W → Option (List ℕ)) (from : Counted W) wh
   left_new w format clients e few unwritten failed = left_of e w (new_cut (contents (inner from)) (contents (inner w)) format clients e few unwritten) failed
 
   -- no operation was taken
-  pub taken_none : (format : Format) (i : Importer W) → i.names ≡ [] → i.operations ≡ 0 → i.clients < 2 ^ 16
+  pub ops_none : (format : Format) (i : Importer W) → i.names ≡ [] → i.operations ≡ 0 → i.clients < 2 ^ 16
       → Appends (contents (inner from)) (contents (inner i.writer.writer)) (head_frame format i.clients) → i.writer.counts ≡ nothing format i.clients
-      → i.writer.written ≡ more_written 0 (length (head_frame format i.clients)) → failures i.writer.writer ≡ failures from → HasTaken contents from [] i
-  taken_none format i names operations few head counts written heard =
-      let t = trace_to format i.clients [] in
+      → i.writer.written ≡ more_written 0 (length (head_frame format i.clients)) → failures i.writer.writer ≡ failures from → HasOps contents from [] i
+  ops_none format i names operations few head counts written heard =
+      let t = known_to format i.clients [] in
       let trace = IsTrace-none format i.clients few in
       let same : beginning t ≡ head_frame format i.clients = beginning-none format i.clients in
       let is : format_of i ≡ format = ap (λ (c : ACounts). c.format) counts in
@@ -135,21 +147,15 @@ module _ {W : Type 0} (contents : W → Option (List ℕ)) (from : Counted W) wh
         appends = subst (Appends (contents (inner from)) (contents (inner i.writer.writer))) (sym same) head;
         heard = heard;
       } in
-      record { names = names; operations = operations; wrote = subst (λ (f : Format). HasWritten contents from (trace_to f i.clients []) i.writer) (sym is) wrote }
+      record { names = names; few = omega arith; operations = operations; wrote = subst (λ (f : Format). HasWritten contents from (known_to f i.clients []) i.writer) (sym is) wrote }
 
   end_is : (t : ATrace) (c : ACounts) → AreCountsOf t c → text t ≡ beginning t ++ end_frame c
   end_is t c counts = ap (λ (n : ℕ). beginning t ++ encoded (TraceEnd n)) (sym counts.total)
 
-  pub ended_trace : (given : List LineOp) (i : Importer W) → HasTaken contents from given i → length i.names ≡ i.clients → IsTrace (trace_of (format_of i) given)
-  ended_trace given i h many = subst (λ (k : ℕ). IsTrace (trace_to (format_of i) k given)) (sym many ∙ ap length h.names) h.wrote.is_trace
-
-  pub ended_written : (given : List LineOp) (i : Importer W) (w : Counted W) → HasTaken contents from given i → length i.names ≡ i.clients
-      → Appends (contents (inner i.writer.writer)) (contents (inner w)) (end_frame i.writer.counts) → Appends (contents (inner from)) (contents (inner w)) (text (trace_of (format_of i) given))
-  ended_written given i w h many more =
-      let t = trace_to (format_of i) i.clients given in
-      let all : text (trace_to (format_of i) i.clients given) ≡ text (trace_of (format_of i) given) = ap (λ (k : ℕ). text (trace_to (format_of i) k given)) (sym many ∙ ap length h.names) in
-      appends_more (contents (inner from)) (contents (inner i.writer.writer)) (contents (inner w)) (beginning t) (end_frame i.writer.counts) (text (trace_of (format_of i) given)) h.wrote.appends more
-      (sym (end_is t i.writer.counts h.wrote.counts) ∙ all)
+  pub end_written : (t : ATrace) (writer : TraceWriter W) (w : Counted W) → HasWritten contents from t writer
+      → Appends (contents (inner writer.writer)) (contents (inner w)) (end_frame writer.counts) → Appends (contents (inner from)) (contents (inner w)) (text t)
+  end_written t writer w h more =
+      appends_more (contents (inner from)) (contents (inner writer.writer)) (contents (inner w)) (beginning t) (end_frame writer.counts) (text t) h.appends more (sym (end_is t writer.counts h.counts))
 
   -- adding `count` bytes to a cut text does not overflow 64 bits
   reported : (old new : Option (List ℕ)) (before count : ℕ) → IsCutShort old new (before + count) → before + count ≡ more_written before count
@@ -169,10 +175,10 @@ module _ {W : Type 0} (contents : W → Option (List ℕ)) (from : Counted W) wh
   left_ended t old w e h unwritten failed = left_of e w (end_cut t old w e h unwritten) (λ q. subst (λ (n : ℕ). Failed n (failures w)) h.heard (failed q))
 
 -- a client without a turn has no room for a record
-pub too_many : (format : Format) (clients : ℕ) (given : List LineOp) (reported : LineOp) (counts : ACounts) (client : ℕ) → AreCountsOf (trace_to format clients given) counts → client ≡ number_of (names_of given) reported.name → client < clients
+pub too_many : (format : Format) (clients : ℕ) (given : List LineOp) (reported : LineOp) (counts : ACounts) (client : ℕ) → AreCountsOf (known_to format clients given) counts → client ≡ number_of (names_of given) reported.name → client < clients
     → (HasTurn counts client → ⊥) → length (names_of (given ++ reported ∷ [])) ≤ MAX_CLIENTS → IsTooMany given reported TooManyOperations
 too_many format clients given reported counts client h number there full few =
-    let many : length (trace_to format clients given).records ≡ length given = length-map given (record_of (names_of given)) in
+    let many : length (known_to format clients given).records ≡ length given = length-map given (record_of (names_of given)) in
     let same : number_of (names_of (given ++ reported ∷ [])) reported.name ≡ client =
     ap (λ (ns : List (List ℕ)). number_of ns reported.name) (names_more given reported) ∙ number_own (names_of given) reported.name ∙ sym number in (
       few,

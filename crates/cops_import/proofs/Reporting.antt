@@ -1,5 +1,5 @@
 -- A line has at most one operation, and a line that has one is not faulty.
-use Rattle.std.proofs.Common.{◌≡◌, ◌==◌, ◌^◌, ◌<◌, ℕ, Bool, false, List, [], ◌∷◌, ◌++◌, All, get_or, refl, sym, ap, subst, ◌∙◌, inl, inr, arith}
+use Rattle.std.proofs.Common.{◌≡◌, ◌==◌, ◌^◌, ◌<◌, ◌+◌, ℕ, Bool, false, List, [], ◌∷◌, ◌++◌, All, get_or, refl, sym, ap, subst, ◌∙◌, inl, inr, arith}
 use Rattle.std.specs.Prelude.{Option, Some, None, codes, decimal}
 use Rattle.std.proofs.lemmas.Bool.{ne_eqb}
 use Rattle.std.proofs.lemmas.Fmt.{decimal_injective}
@@ -19,15 +19,18 @@ use Rattle.cops_types.specs.declared.format.Format.TheVariants.{One}
 use Rattle.cops_types.specs.declared.op.Op.{Op}
 use Rattle.cops_types.specs.declared.op.Op.TheVariants as op
 use Rattle.cops_json.specs.Json.{text_json}
-use Rattle.cops_import.specs.Line.{AsksKey, FoundNothing, HasForm, HasNoVersion, HasSeveral, IsAsked, IsOrdered, IsUnranked, IsFaulty, IsJson, IsNameJson, IsVersionJson, IsVersionOf, IsWrong, IsWrongIn, LacksFormat, LacksValue, LacksVersion, LacksRank, LineGives, LineLacksRank, Gives, GivesContent, GivesName, GivesOp, GivesValue, GivesVersion, TextGives}
+use Rattle.cops_import.specs.Line.{AsksKey, FoundNothing, HasForm, HasName, HasNoVersion, HasSeveral, HasWrongVersion, IsAsked, IsNothing, IsOrdered, IsUnranked, IsFaulty, IsJson, IsNameJson, IsVersionJson, IsVersionOf, IsWrong, IsWrongIn, LacksFormat, LacksValue, LacksVersion, LacksRank, LineGives, LineLacksRank, Gives, GivesContent, GivesName, GivesOp, GivesValue, GivesVersion, GivesWrite, TextGives, maybe_kind}
 use Rattle.cops_import.specs.Lines.{GiveAfter, with_reported}
 use Rattle.cops_import.specs.declared.fault.JsonLineFault.{JsonLineFault}
 use Rattle.cops_import.specs.declared.fault.JsonLineFault.TheVariants.{NoJson, NoClient, NoOperation, BothOperations, BadKey, BadValue, BadVersion, NeedsFormat2, TooManyClients, TooManyOperations}
 use Rattle.cops_import.specs.declared.line.Kind.{Kind}
-use Rattle.cops_import.specs.declared.line.Kind.TheVariants.{Put, Get, Del}
-use Rattle.cops_import.specs.declared.line.LineOp.{LineOp}
+use Rattle.cops_import.specs.declared.line.Kind.TheVariants.{Put, Get, Del, MaybePut, MaybeDel}
+use Rattle.cops_import.specs.declared.reported.Reported.{Reported}
+use Rattle.cops_import.specs.declared.reported.Reported.TheVariants.{Known, Unknown}
+use Rattle.cops_outcomes.specs.declared.write.Write.{Write}
 use Rattle.cops_json.proofs.Versions.{clock_fits, no_dot}
-use Rattle.cops_import.specs.Stores.{AStoreVersion, number, text, pair, store_json, IsRankOf}
+use Rattle.cops_import.specs.Stores.{AStoreVersion, store_json, IsRankOf}
+use Rattle.cops_import.specs.Stores as store
 use Rattle.cops_import.specs.declared.rules.Rules.{Rules}
 use Rattle.cops_import.specs.declared.rules.Versions.{Versions}
 use Rattle.cops_import.specs.declared.rules.Versions.TheVariants.{Plain, Ranked}
@@ -88,9 +91,9 @@ plain_one d v w p q =
 
 -- two versions of a store with one JSON are equal
 store_one : (a b : AStoreVersion) → store_json a ≡ store_json b → a ≡ b
-store_one (number m) (number n) e = let same : m ≡ n = cc in ap number same
-store_one (text x) (text y) e = let same : x ≡ y = cc in ap text same
-store_one (pair m x) (pair n y) e = let first : m ≡ n = cc in let second : x ≡ y = cc in cc
+store_one (store.number m) (store.number n) e = let same : m ≡ n = cc in ap store.number same
+store_one (store.text x) (store.text y) e = let same : x ≡ y = cc in ap store.text same
+store_one (store.pair m x) (store.pair n y) e = let first : m ≡ n = cc in let second : x ≡ y = cc in cc
 store_one _ _ e = absurd cc
 
 version_one : (versions : Versions) → IsOrdered versions → (d : Data) (v w : ℕ) → GivesVersion versions d v → GivesVersion versions d w → v ≡ w
@@ -117,15 +120,16 @@ something format d None reported found = reported.1 found.1
 -- ---- at most one operation
 
 asked_one : (d : Data) (k l : Kind) (x y : Data) → IsAsked d k x → IsAsked d l y → (k ≡ l) × (x ≡ y)
-asked_one d Put Put x y p q = (refl, let e = p.0 in let f = q.0 in cc)
-asked_one d Put Get x y p q = let e = p.0 in let f = q.0 in absurd cc
-asked_one d Put Del x y p q = let e = p.0 in let f = q.0 in absurd cc
-asked_one d Get Put x y p q = let e = p.1 in let f = q.1 in absurd cc
-asked_one d Get Get x y p q = (refl, let e = p.1 in let f = q.1 in cc)
-asked_one d Get Del x y p q = let e = p.1 in let f = q.1 in absurd cc
-asked_one d Del Put x y p q = let e = p.2 in let f = q.2 in absurd cc
-asked_one d Del Get x y p q = let e = p.2 in let f = q.2 in absurd cc
-asked_one d Del Del x y p q = (refl, let e = p.2 in let f = q.2 in cc)
+asked_one d Put Put x y p q = (refl, cc)
+asked_one d MaybePut MaybePut x y p q = (refl, cc)
+asked_one d Get Get x y p q = (refl, cc)
+asked_one d Del Del x y p q = (refl, cc)
+asked_one d MaybeDel MaybeDel x y p q = (refl, cc)
+asked_one d Put MaybePut x y p q = absurd (p.3 q.3)
+asked_one d MaybePut Put x y p q = absurd (q.3 p.3)
+asked_one d Del MaybeDel x y p q = absurd (p.3 q.3)
+asked_one d MaybeDel Del x y p q = absurd (q.3 p.3)
+asked_one d _ _ x y p q = absurd cc
 
 key_one : (d : Data) (k l : Kind) (a b : List ℕ) → AsksKey d k a → AsksKey d l b → (k ≡ l) × (a ≡ b)
 key_one d k l a b p q = let one = asked_one d k l (text_json a) (text_json b) p.0 q.0 in let e = one.1 in (one.0, cc)
@@ -183,29 +187,70 @@ op_one rules ordered d (op.Del k v) b p q = let e = same_kind rules d (op.Del k 
 op_one rules ordered d a (op.Put l y w) p q = let e = same_kind rules d a (op.Put l y w) p q in absurd cc
 op_one rules ordered d a (op.Del l w) p q = let e = same_kind rules d a (op.Del l w) p q in absurd cc
 
-reported_one : (rules : Rules) → IsOrdered rules.versions → (d : Data) (a b : LineOp) → Gives rules d a → Gives rules d b → a ≡ b
-reported_one rules ordered d a b p q =
-    let name : a.name ≡ b.name = name_one d a.name b.name p.0 q.0 in
-    let ops : a.op ≡ b.op = op_one rules ordered d a.op b.op p.1 q.1 in
-    λ i. record { name = name i; op = ops i }
+-- two contents of one object are equal if both are of unknown outcome
+content_one : (format : Format) (d : Data) (a b : Option (List ℕ)) → maybe_kind a ≡ maybe_kind b → GivesContent format d (maybe_kind a) a → GivesContent format d (maybe_kind b) b → a ≡ b
+content_one format d None None kind p q = refl
+content_one format d (Some x) (Some y) kind p q = ap Some (value_one format d x y p q)
+content_one format d _ _ kind p q = absurd cc
+
+write_one : (rules : Rules) (d : Data) (a b : Write) → GivesWrite rules d a → GivesWrite rules d b → a ≡ b
+write_one rules d a b p q =
+    let same = key_one d (maybe_kind a.content) (maybe_kind b.content) a.key b.key p.0 q.0 in
+    let content = content_one rules.format d a.content b.content same.0 p.1 q.1 in
+    λ i. record { key = same.1 i; content = content i }
+
+abbrev kind_in : Reported → Kind
+kind_in (Known reported) = kind_of reported.op
+kind_in (Unknown put) = maybe_kind put.write.content
+
+abbrev key_of : Reported → List ℕ
+key_of (Known reported) = key_in reported.op
+key_of (Unknown put) = put.write.key
+
+asks_in : (rules : Rules) (number : ℕ) (d : Data) (reported : Reported) → Gives rules number d reported → AsksKey d (kind_in reported) (key_of reported)
+asks_in rules number d (Known reported) reports = asks_of rules d reported.op reports.1
+asks_in rules number d (Unknown put) reports = reports.1.0
+
+-- the kind of an object's operation
+its_kind : (rules : Rules) (number : ℕ) (d : Data) (reported : Reported) (kind : Kind) (key : List ℕ) → Gives rules number d reported → AsksKey d kind key → kind ≡ kind_in reported
+its_kind rules number d reported kind key reports asks = (key_one d kind (kind_in reported) key (key_of reported) asks (asks_in rules number d reported reports)).0
+
+-- an operation with its result is not of unknown outcome
+not_both : (o : Op) (content : Option (List ℕ)) → kind_of o ≡ maybe_kind content → ⊥
+not_both o content e = grind arith
+
+reported_one : (rules : Rules) → IsOrdered rules.versions → (number : ℕ) (d : Data) (a b : Reported) → Gives rules number d a → Gives rules number d b → a ≡ b
+reported_one rules ordered number d (Known a) (Known b) p q =
+    let name = name_one d a.name b.name p.0 q.0 in
+    let ops = op_one rules ordered d a.op b.op p.1 q.1 in
+    λ i. Known (record { name = name i; op = ops i })
+reported_one rules ordered number d (Unknown a) (Unknown b) p q =
+    let name = name_one d a.name b.name p.0 q.0 in
+    let write = write_one rules d a.write b.write p.1 q.1 in
+    let line : a.line ≡ b.line = p.2 ∙ sym q.2 in
+    λ i. Unknown (record { name = name i; write = write i; line = line i })
+reported_one rules ordered number d (Known a) (Unknown b) p q =
+    absurd (not_both a.op b.write.content (its_kind rules number d (Unknown b) (kind_of a.op) (key_in a.op) q (asks_of rules d a.op p.1)))
+reported_one rules ordered number d (Unknown a) (Known b) p q =
+    absurd (not_both b.op a.write.content (its_kind rules number d (Unknown a) (kind_of b.op) (key_in b.op) p (asks_of rules d b.op q.1)))
 
 json_one : (line : List ℕ) (d e : Data) → IsJson line d → IsJson line e → d ≡ e
 json_one line d e p q = let f = p.1 in let g = q.1 in cc
 
--- two operations of one line are equal
-line_one : (rules : Rules) → IsOrdered rules.versions → (line : List ℕ) (a b : Option LineOp) → LineGives rules line a → LineGives rules line b → a ≡ b
-line_one rules ordered line None None p q = refl
-line_one rules ordered line None (Some b) p q = absurd (q.0 p)
-line_one rules ordered line (Some a) None p q = absurd (p.0 q)
-line_one rules ordered line (Some a) (Some b) p q =
+-- what one line reports is one
+line_one : (rules : Rules) → IsOrdered rules.versions → (number : ℕ) (line : List ℕ) (a b : Option Reported) → LineGives rules number line a → LineGives rules number line b → a ≡ b
+line_one rules ordered number line None None p q = refl
+line_one rules ordered number line None (Some b) p q = absurd (q.0 p)
+line_one rules ordered number line (Some a) None p q = absurd (p.0 q)
+line_one rules ordered number line (Some a) (Some b) p q =
     let same = json_one line p.1.0 q.1.0 p.1.1 q.1.1 in
-    ap Some (reported_one rules ordered q.1.0 a b (subst (λ (d : Data). Gives rules d a) same p.1.2) q.1.2)
+    ap Some (reported_one rules ordered number q.1.0 a b (subst (λ (d : Data). Gives rules number d a) same p.1.2) q.1.2)
 
-pub lines_one : (rules : Rules) → IsOrdered rules.versions → (earlier : List LineOp) (ls : List (List ℕ)) (a b : List LineOp) → GiveAfter rules earlier ls a → GiveAfter rules earlier ls b → a ≡ b
-lines_one rules ordered earlier [] a b p q = p ∙ sym q
-lines_one rules ordered earlier (line ∷ ls) a b p q =
-    let same = line_one rules ordered line p.0 q.0 p.1 q.1 in
-    lines_one rules ordered (with_reported earlier q.0) ls a b (subst (λ (t : Option LineOp). GiveAfter rules (with_reported earlier t) ls a) same p.2) q.2
+pub lines_one : (rules : Rules) → IsOrdered rules.versions → (number : ℕ) (earlier : List Reported) (ls : List (List ℕ)) (a b : List Reported) → GiveAfter rules number earlier ls a → GiveAfter rules number earlier ls b → a ≡ b
+lines_one rules ordered number earlier [] a b p q = p ∙ sym q
+lines_one rules ordered number earlier (line ∷ ls) a b p q =
+    let same = line_one rules ordered number line p.0 q.0 p.1 q.1 in
+    lines_one rules ordered (number + 1) (with_reported earlier q.0) ls a b (subst (λ (t : Option Reported). GiveAfter rules (number + 1) (with_reported earlier t) ls a) same p.2) q.2
 
 -- ---- a line with an operation is not faulty
 
@@ -231,73 +276,86 @@ lacks_version rules ordered d (op.Got k x v) reported lacks = has_form rules ord
 lacks_version rules ordered d (op.Gone k v) reported lacks = has_form rules ordered d v reported.2 lacks.2
 lacks_version rules ordered d (op.Missed k) reported lacks = something rules.format d lacks.0 lacks.1 reported.1
 
--- rules 1 has no deletions
+-- format 1 has no deletions
 no_deletion : (format : Format) → Fits format None → format ≡ One → ⊥
 no_deletion format fits is = subst (λ (f : Format). Fits f None) is fits
 
 lacks_format : (rules : Rules) (d : Data) (o : Op) → GivesOp rules d o → LacksFormat rules d (kind_of o) → ⊥
-lacks_format rules d (op.Put k x v) reported lacks = lacks.1
-lacks_format rules d (op.Del k v) reported lacks = no_deletion rules.format reported.3 lacks.3
-lacks_format rules d (op.Got k x v) reported lacks = not_null rules.format d x reported.1 lacks.1.0
-lacks_format rules d (op.Gone k v) reported lacks = no_deletion rules.format reported.3 lacks.3
-lacks_format rules d (op.Missed k) reported lacks = something rules.format d None lacks.1 reported.1
+lacks_format rules d (op.Put k x v) reported lacks = lacks.0
+lacks_format rules d (op.Del k v) reported lacks = no_deletion rules.format reported.3 lacks.2
+lacks_format rules d (op.Got k x v) reported lacks = not_null rules.format d x reported.1 lacks.0.0
+lacks_format rules d (op.Gone k v) reported lacks = no_deletion rules.format reported.3 lacks.2
+lacks_format rules d (op.Missed k) reported lacks = something rules.format d None lacks.0 reported.1
+
+-- a put of unknown outcome has no version
+right_version : (versions : Versions) (d : Data) (content : Option (List ℕ)) → IsNothing (get (codes "version") d) → HasWrongVersion versions d (maybe_kind content) → ⊥
+right_version versions d None none wrong = wrong none
+right_version versions d (Some value) none wrong = wrong none
+
+right_format : (rules : Rules) (d : Data) (content : Option (List ℕ)) → Fits rules.format content → LacksFormat rules d (maybe_kind content) → ⊥
+right_format rules d None fits lacks = no_deletion rules.format fits lacks.2
+right_format rules d (Some value) fits lacks = lacks.0
+
+value_right : (rules : Rules) (number : ℕ) (d : Data) (reported : Reported) → Gives rules number d reported → LacksValue rules.format d (kind_in reported) → ⊥
+value_right rules number d (Known reported) reports lacks = lacks_value rules d reported.op reports.1 lacks
+value_right rules number d (Unknown put) reports lacks = lacks.0 put.write.content reports.1.1
+
+version_right : (rules : Rules) → IsOrdered rules.versions → (number : ℕ) (d : Data) (reported : Reported) → Gives rules number d reported → LacksVersion rules d (kind_in reported) → ⊥
+version_right rules ordered number d (Known reported) reports lacks = lacks_version rules ordered d reported.op reports.1 lacks
+version_right rules ordered number d (Unknown put) reports lacks = right_version rules.versions d put.write.content reports.1.2 lacks.2
+
+format_right : (rules : Rules) (number : ℕ) (d : Data) (reported : Reported) → Gives rules number d reported → LacksFormat rules d (kind_in reported) → ⊥
+format_right rules number d (Known reported) reports lacks = lacks_format rules d reported.op reports.1 lacks
+format_right rules number d (Unknown put) reports lacks = right_format rules d put.write.content reports.1.3 lacks
 
 neither : (d : Data) (kind : Kind) (x : Data) → IsAsked d kind x → get (codes "put") d ≡ None → get (codes "get") d ≡ None → get (codes "del") d ≡ None → ⊥
-neither d Put x asked p q r = let e = asked.0 in cc
-neither d Get x asked p q r = let e = asked.1 in cc
-neither d Del x asked p q r = let e = asked.2 in cc
+neither d _ x asked p q r = grind arith
 
 several : (d : Data) (kind : Kind) (x : Data) → IsAsked d kind x → HasSeveral d → ⊥
-several d Put x asked (inl h) = h.1 asked.1
-several d Put x asked (inr (inl h)) = h.1 asked.2
-several d Put x asked (inr (inr h)) = h.0 asked.1
-several d Get x asked (inl h) = h.0 asked.0
-several d Get x asked (inr (inl h)) = h.0 asked.0
-several d Get x asked (inr (inr h)) = h.1 asked.2
-several d Del x asked (inl h) = h.0 asked.0
-several d Del x asked (inr (inl h)) = h.0 asked.0
-several d Del x asked (inr (inr h)) = h.0 asked.1
+several d _ x asked h = grind arith
 
--- the kind of an object's operation
-its_kind : (rules : Rules) (d : Data) (reported : LineOp) (kind : Kind) (key : List ℕ) → Gives rules d reported → AsksKey d kind key → kind ≡ kind_of reported.op
-its_kind rules d reported kind key reports asks = (key_one d kind (kind_of reported.op) key (key_in reported.op) asks (asks_of rules d reported.op reports.1)).0
+has_name : (rules : Rules) (number : ℕ) (d : Data) (reported : Reported) → Gives rules number d reported → HasName d
+has_name rules number d (Known reported) reports = (reported.name, reports.0)
+has_name rules number d (Unknown put) reports = (put.name, reports.0)
 
-not_wrong : (rules : Rules) → IsOrdered rules.versions → (d : Data) (reported : LineOp) (fault : JsonLineFault) → Gives rules d reported → IsWrong rules d fault → ⊥
-not_wrong rules ordered d reported NoJson reports wrong = wrong
-not_wrong rules ordered d reported NoClient reports wrong = wrong reported.name reports.0
-not_wrong rules ordered d reported NoOperation reports wrong = neither d (kind_of reported.op) (text_json (key_in reported.op)) (asks_of rules d reported.op reports.1).0 wrong.1 wrong.2 wrong.3
-not_wrong rules ordered d reported BothOperations reports wrong = several d (kind_of reported.op) (text_json (key_in reported.op)) (asks_of rules d reported.op reports.1).0 wrong.1
-not_wrong rules ordered d reported BadKey reports wrong =
-    let asks = asks_of rules d reported.op reports.1 in
-    let bad = wrong.1 in
-    bad.3 (key_in reported.op) asks.1 (sym (asked_one d (kind_of reported.op) bad.0 (text_json (key_in reported.op)) bad.1 asks.0 bad.2).1)
-not_wrong rules ordered d reported BadValue reports wrong =
-    lacks_value rules d reported.op reports.1 (subst (LacksValue rules.format d) (its_kind rules d reported wrong.1.0 wrong.1.1 reports wrong.1.2) wrong.1.3)
-not_wrong rules ordered d reported BadVersion reports wrong =
-    lacks_version rules ordered d reported.op reports.1 (subst (LacksVersion rules d) (its_kind rules d reported wrong.1.0 wrong.1.1 reports wrong.1.2) wrong.1.3)
-not_wrong rules ordered d reported NeedsFormat2 reports wrong =
-    lacks_format rules d reported.op reports.1 (subst (LacksFormat rules d) (its_kind rules d reported wrong.1.0 wrong.1.1 reports wrong.1.2) wrong.1.3)
-not_wrong rules ordered d reported TooManyClients reports wrong = wrong
-not_wrong rules ordered d reported TooManyOperations reports wrong = wrong
+-- the object of a line that reports something is not wrong
+module _ (rules : Rules) (ordered : IsOrdered rules.versions) (number : ℕ) (d : Data) (reported : Reported) (reports : Gives rules number d reported) where
+  asks : AsksKey d (kind_in reported) (key_of reported)
+  asks = asks_in rules number d reported reports
 
-wrong_text : (rules : Rules) → IsOrdered rules.versions → (line : List ℕ) (reported : LineOp) (fault : JsonLineFault) → TextGives rules line reported → (d : Data) × IsJson line d × IsWrong rules d fault → ⊥
-wrong_text rules ordered line reported fault reports wrong = not_wrong rules ordered wrong.0 reported fault (subst (λ (d : Data). Gives rules d reported) (json_one line reports.0 wrong.0 reports.1 wrong.1) reports.2) wrong.2
+  kind_is : (kind : Kind) (key : List ℕ) → AsksKey d kind key → kind ≡ kind_in reported
+  kind_is kind key also = its_kind rules number d reported kind key reports also
 
-wrong_line : (rules : Rules) → IsOrdered rules.versions → (line : List ℕ) (reported : LineOp) (fault : JsonLineFault) → TextGives rules line reported → IsWrongIn rules line fault → ⊥
-wrong_line rules ordered line reported NoJson reports wrong = wrong reports.0 reports.1
-wrong_line rules ordered line reported NoClient reports wrong = wrong_text rules ordered line reported NoClient reports wrong
-wrong_line rules ordered line reported NoOperation reports wrong = wrong_text rules ordered line reported NoOperation reports wrong
-wrong_line rules ordered line reported BothOperations reports wrong = wrong_text rules ordered line reported BothOperations reports wrong
-wrong_line rules ordered line reported BadKey reports wrong = wrong_text rules ordered line reported BadKey reports wrong
-wrong_line rules ordered line reported BadValue reports wrong = wrong_text rules ordered line reported BadValue reports wrong
-wrong_line rules ordered line reported BadVersion reports wrong = wrong_text rules ordered line reported BadVersion reports wrong
-wrong_line rules ordered line reported NeedsFormat2 reports wrong = wrong_text rules ordered line reported NeedsFormat2 reports wrong
-wrong_line rules ordered line reported TooManyClients reports wrong = wrong_text rules ordered line reported TooManyClients reports wrong
-wrong_line rules ordered line reported TooManyOperations reports wrong = wrong_text rules ordered line reported TooManyOperations reports wrong
+  not_wrong : (fault : JsonLineFault) → IsWrong rules d fault → ⊥
+  not_wrong NoJson wrong = wrong
+  not_wrong NoClient wrong = let name = has_name rules number d reported reports in wrong name.0 name.1
+  not_wrong NoOperation wrong = neither d (kind_in reported) (text_json (key_of reported)) asks.0 wrong.1 wrong.2 wrong.3
+  not_wrong BothOperations wrong = several d (kind_in reported) (text_json (key_of reported)) asks.0 wrong.1
+  not_wrong BadKey wrong =
+      let bad = wrong.1 in
+      bad.3 (key_of reported) asks.1 (sym (asked_one d (kind_in reported) bad.0 (text_json (key_of reported)) bad.1 asks.0 bad.2).1)
+  not_wrong BadValue wrong = value_right rules number d reported reports (subst (LacksValue rules.format d) (kind_is wrong.1.0 wrong.1.1 wrong.1.2) wrong.1.3)
+  not_wrong BadVersion wrong =
+      version_right rules ordered number d reported reports (subst (LacksVersion rules d) (kind_is wrong.1.0 wrong.1.1 wrong.1.2) wrong.1.3)
+  not_wrong NeedsFormat2 wrong = format_right rules number d reported reports (subst (LacksFormat rules d) (kind_is wrong.1.0 wrong.1.1 wrong.1.2) wrong.1.3)
+  not_wrong TooManyClients wrong = wrong
+  not_wrong TooManyOperations wrong = wrong
 
-pub not_faulty : (rules : Rules) → IsOrdered rules.versions → (line : List ℕ) (reported : Option LineOp) (fault : JsonLineFault) → LineGives rules line reported → IsFaulty rules line fault → ⊥
-not_faulty rules ordered line None fault reports faulty = faulty.0 reports
-not_faulty rules ordered line (Some reported) fault reports faulty = wrong_line rules ordered line reported fault reports.1 faulty.1
+module _ (rules : Rules) (ordered : IsOrdered rules.versions) (number : ℕ) (line : List ℕ) (reported : Reported) (reports : TextGives rules number line reported) where
+  -- the line reports it by any object that it is the JSON of
+  gives : (d : Data) → IsJson line d → Gives rules number d reported
+  gives d json = subst (λ (d : Data). Gives rules number d reported) (json_one line reports.0 d reports.1 json) reports.2
+
+  wrong_text : (fault : JsonLineFault) → (d : Data) × IsJson line d × IsWrong rules d fault → ⊥
+  wrong_text fault wrong = not_wrong rules ordered number wrong.0 reported (gives wrong.0 wrong.1) fault wrong.2
+
+  wrong_line : (fault : JsonLineFault) → IsWrongIn rules line fault → ⊥
+  wrong_line NoJson wrong = wrong reports.0 reports.1
+  wrong_line fault wrong = wrong_text fault wrong
+
+pub not_faulty : (rules : Rules) → IsOrdered rules.versions → (number : ℕ) (line : List ℕ) (reported : Option Reported) (fault : JsonLineFault) → LineGives rules number line reported → IsFaulty rules line fault → ⊥
+not_faulty rules ordered number line None fault reports faulty = faulty.0 reports
+not_faulty rules ordered number line (Some reported) fault reports faulty = wrong_line rules ordered number line reported reports.1 fault faulty.1
 
 -- ---- a line with an operation does not lack a rank
 
@@ -319,15 +377,28 @@ op_ranked rules ordered d (op.Got k x v) content reported gives lacks = has_rank
 op_ranked rules ordered d (op.Gone k v) content reported gives lacks = has_rank rules.versions ordered d v reported.2 lacks
 op_ranked rules ordered d (op.Missed k) content reported gives lacks = something rules.format d content gives reported.1
 
-ranked_text : (rules : Rules) → IsOrdered rules.versions → (d : Data) (reported : LineOp) → Gives rules d reported → LacksRank rules d → ⊥
-ranked_text rules ordered d reported reports lacks =
-    let content = lacks.1.3 in
-    op_ranked rules ordered d reported.op content.0 reports.1
-    (subst (λ (kind : Kind). GivesContent rules.format d kind content.0) (its_kind rules d reported lacks.1.0 lacks.1.1 reports lacks.1.2) content.1) content.2
+-- a missing or null version has no form
+no_version : (versions : Versions) (d : Data) → IsNothing (get (codes "version") d) → IsUnranked versions d → ⊥
+no_version Plain d none lacks = lacks.2
+no_version (Ranked all) d none lacks = no_store lacks.2.0 (sym lacks.2.1) none
+  where
+    no_store : (of : AStoreVersion) → store_json of ≡ lacks.0 → IsNothing (get (codes "version") d) → ⊥
+    no_store of is (inl none) = let e = lacks.1 in cc
+    no_store _ is (inr none) = let e = lacks.1 in grind arith
 
-pub not_unranked : (rules : Rules) → IsOrdered rules.versions → (line : List ℕ) (reported : Option LineOp) → LineGives rules line reported → LineLacksRank rules line → ⊥
-not_unranked rules ordered line None reports lacks = lacks.0 reports
-not_unranked rules ordered line (Some reported) reports lacks =
-    let text = reports.1 in
+ranked : (rules : Rules) → IsOrdered rules.versions → (number : ℕ) (d : Data) (reported : Reported) (content : Option (List ℕ)) → Gives rules number d reported
+    → GivesContent rules.format d (kind_in reported) content → IsUnranked rules.versions d → ⊥
+ranked rules ordered number d (Known reported) content reports has lacks = op_ranked rules ordered d reported.op content reports.1 has lacks
+ranked rules ordered number d (Unknown put) content reports has lacks = no_version rules.versions d reports.1.2 lacks
+
+ranked_text : (rules : Rules) → IsOrdered rules.versions → (number : ℕ) (d : Data) (reported : Reported) → Gives rules number d reported → LacksRank rules d → ⊥
+ranked_text rules ordered number d reported reports lacks =
+    let content = lacks.1.3 in
+    ranked rules ordered number d reported content.0 reports
+    (subst (λ (kind : Kind). GivesContent rules.format d kind content.0) (its_kind rules number d reported lacks.1.0 lacks.1.1 reports lacks.1.2) content.1) content.2
+
+pub not_unranked : (rules : Rules) → IsOrdered rules.versions → (number : ℕ) (line : List ℕ) (reported : Option Reported) → LineGives rules number line reported → LineLacksRank rules line → ⊥
+not_unranked rules ordered number line None reports lacks = lacks.0 reports
+not_unranked rules ordered number line (Some reported) reports lacks =
     let other = lacks.1 in
-    ranked_text rules ordered other.0 reported (subst (λ (d : Data). Gives rules d reported) (json_one line text.0 other.0 text.1 other.1) text.2) other.2
+    ranked_text rules ordered number other.0 reported (gives rules ordered number line reported reports.1 other.0 other.1) other.2

@@ -1,12 +1,12 @@
 -- Splitting a text into lines, and the operations of the lines.
-use Rattle.std.proofs.Common.{◌≡◌, ◌==◌, ℕ, List, [], ◌∷◌, ◌++◌, refl, sym, ap, ◌∙◌, append_assoc}
+use Rattle.std.proofs.Common.{◌≡◌, ◌==◌, ◌+◌, ℕ, List, [], ◌∷◌, ◌++◌, length, refl, sym, ap, subst, ◌∙◌, append_assoc, arith}
 use Rattle.std.specs.Prelude.{Option}
 use Rattle.std.proofs.lemmas.List.{append-nil}
 use Rattle.std.proofs.lemmas.List.Splits.{slice_split_at, slice_split_none}
 use Rattle.cops_import.specs.declared.rules.Rules.{Rules}
 use Rattle.cops_import.specs.Line.{LineGives}
 use Rattle.cops_import.specs.Lines.{IsWithin, GiveAfter, lines, with_reported}
-use Rattle.cops_import.specs.declared.line.LineOp.{LineOp}
+use Rattle.cops_import.specs.declared.reported.Reported.{Reported}
 
 -- the lines of `fed` are `ended`, and then `line`, which may go on
 abbrev pub Splits : List ℕ → List (List ℕ) → List ℕ → Type 0
@@ -33,7 +33,11 @@ split_last fed ended line h within =
     ap lines (sym (append-nil fed)) ∙ h [] ∙ ap (λ (l : List ℕ). ended ++ lines l) (append-nil line)
     ∙ ap (λ (ls : List (List ℕ)). ended ++ ls) (slice_split_none (λ (b : ℕ). b == 10) line within)
 
--- the operation of one more line comes last
-pub report_more : (rules : Rules) (earlier : List LineOp) (ls : List (List ℕ)) (given : List LineOp) (line : List ℕ) (reported : Option LineOp) → GiveAfter rules earlier ls given → LineGives rules line reported → GiveAfter rules earlier (ls ++ line ∷ []) (with_reported given reported)
-report_more rules earlier [] given line reported h is = (reported, is, ap (λ (ts : List LineOp). with_reported ts reported) h)
-report_more rules earlier (l ∷ ls) given line reported h is = (h.0, h.1, report_more rules (with_reported earlier h.0) ls given line reported h.2 is)
+-- what one more line reports comes last
+pub report_more : (rules : Rules) (number at : ℕ) (earlier : List Reported) (ls : List (List ℕ)) (given : List Reported) (line : List ℕ) (reported : Option Reported) → GiveAfter rules number earlier ls given → at ≡ number + length ls
+    → LineGives rules at line reported → GiveAfter rules number earlier (ls ++ line ∷ []) (with_reported given reported)
+report_more rules number at earlier [] given line reported h counted is =
+    let here : at ≡ number = omega (arith, counted) in
+    (reported, subst (λ (n : ℕ). LineGives rules n line reported) here is, ap (λ (ts : List Reported). with_reported ts reported) h)
+report_more rules number at earlier (l ∷ ls) given line reported h counted is =
+    (h.0, h.1, report_more rules (number + 1) at (with_reported earlier h.0) ls given line reported h.2 (omega (arith, counted)) is)

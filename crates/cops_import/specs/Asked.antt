@@ -1,6 +1,7 @@
--- The operation of an object, given its kind and the value that holds its key.
-use Rattle.std.specs.Prelude.{◌≡◌, ◌≢◌, ℕ, List, Option, None, Some}
+-- What an object says that was done, given its operation's kind and the value that holds its key.
+use Rattle.std.specs.Prelude.{◌≡◌, ◌≢◌, ℕ, List, Option, None, Some, codes}
 use Rattle.serde_json.specs.Data.{Data}
+use Rattle.serde_json.specs.Find.{get}
 use Rattle.cops_types.specs.Format.{Fits}
 use Rattle.cops_types.specs.KeyValue.{IsKey}
 use Rattle.cops_types.specs.declared.op.Op.{Op}
@@ -9,9 +10,12 @@ use Rattle.cops_import.specs.declared.fault.JsonLineFault.{JsonLineFault}
 use Rattle.cops_import.specs.declared.fault.JsonLineFault.TheVariants.{BadKey, BadValue, BadVersion, NeedsFormat2}
 use Rattle.cops_import.specs.declared.line.Kind.{Kind}
 use Rattle.cops_import.specs.declared.line.Kind.TheVariants.{Put, Get, Del}
+use Rattle.cops_import.specs.declared.line.Action.{Action}
+use Rattle.cops_import.specs.declared.line.Action.TheVariants as action
+use Rattle.cops_outcomes.specs.declared.write.Write.{Write}
 use Rattle.cops_import.specs.declared.rules.Rules.{Rules}
 use Rattle.cops_json.specs.Json.{text_json}
-use Rattle.cops_import.specs.Line.{FoundNothing, LacksFormat, LacksValue, LacksVersion, GivesContent, GivesVersion, IsUnranked}
+use Rattle.cops_import.specs.Line.{FoundNothing, IsNothing, maybe_kind, LacksFormat, LacksValue, LacksVersion, GivesContent, GivesVersion, IsUnranked}
 
 abbrev pub IsKeyJson : Data → List ℕ → Type 0
 IsKeyJson at key = (at ≡ text_json key) × IsKey key
@@ -24,6 +28,16 @@ GivesKind rules d Get at (op.Got key value version) = IsKeyJson at key × GivesC
 GivesKind rules d Get at (op.Gone key version) = IsKeyJson at key × GivesContent rules.format d Get None × GivesVersion rules.versions d version × Fits rules.format None
 GivesKind rules d Get at (op.Missed key) = IsKeyJson at key × FoundNothing d
 GivesKind rules d _ at _ = ⊥
+
+-- what a put or a deletion of unknown outcome writes, whose operation has this kind, and its key in `at`
+abbrev pub WritesKind : Rules → Data → Kind → Data → Write → Type 0
+WritesKind rules d kind at w =
+    (kind ≡ maybe_kind w.content) × IsKeyJson at w.key × GivesContent rules.format d kind w.content × IsNothing (get (codes "version") d) × Fits rules.format w.content
+
+-- what such an object says that was done
+abbrev pub ActsKind : Rules → Data → Kind → Data → Action → Type 0
+ActsKind rules d kind at (action.Op o) = GivesKind rules d kind at o
+ActsKind rules d kind at (action.Write w) = WritesKind rules d kind at w
 
 -- what is wrong with such an object
 abbrev pub IsWrongOf : Rules → Data → Kind → Data → JsonLineFault → Type 0

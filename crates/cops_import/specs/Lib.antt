@@ -3,6 +3,7 @@ pub mod Line
 pub mod Asked
 pub mod Names
 pub mod Lines
+pub mod Outcomes
 pub mod Words
 pub mod Writing
 pub mod Faults

@@ -16,8 +16,10 @@ use Rattle.cops_types.specs.declared.op.Op.TheVariants as op
 use Rattle.cops_import.specs.declared.fault.JsonLineFault.{JsonLineFault}
 use Rattle.cops_import.specs.declared.fault.JsonLineFault.TheVariants.{NoJson, NoClient, NoOperation, BothOperations, BadKey, BadValue, BadVersion, NeedsFormat2}
 use Rattle.cops_import.specs.declared.line.Kind.{Kind}
-use Rattle.cops_import.specs.declared.line.Kind.TheVariants.{Put, Get, Del}
-use Rattle.cops_import.specs.declared.line.LineOp.{LineOp}
+use Rattle.cops_import.specs.declared.line.Kind.TheVariants.{Put, Get, Del, MaybePut, MaybeDel}
+use Rattle.cops_import.specs.declared.reported.Reported.{Reported}
+use Rattle.cops_import.specs.declared.reported.Reported.TheVariants.{Known, Unknown}
+use Rattle.cops_outcomes.specs.declared.write.Write.{Write}
 use Rattle.cops_import.specs.declared.rules.Rules.{Rules}
 use Rattle.cops_import.specs.declared.rules.Versions.{Versions}
 use Rattle.cops_import.specs.declared.rules.Versions.TheVariants.{Plain, Ranked}
@@ -53,11 +55,17 @@ IsNameJson name d = (d ≡ text_json name) ⊎ ((n : ℕ) × (d ≡ number_json 
 abbrev pub GivesName : Data → List ℕ → Type 0
 GivesName d name = (at : Data) × (get (codes "client") d ≡ Some at) × IsNameJson name at
 
+-- the outcome of the object's put or deletion is unknown
+abbrev pub IsUnknown : Data → Type 0
+IsUnknown d = get (codes "ok") d ≡ Some null
+
 -- the object has one operation, of this kind, and this is the value that holds its key
 abbrev pub IsAsked : Data → Kind → Data → Type 0
-IsAsked d Put at = (get (codes "put") d ≡ Some at) × (get (codes "get") d ≡ None) × (get (codes "del") d ≡ None)
+IsAsked d Put at = (get (codes "put") d ≡ Some at) × (get (codes "get") d ≡ None) × (get (codes "del") d ≡ None) × (IsUnknown d → ⊥)
+IsAsked d MaybePut at = (get (codes "put") d ≡ Some at) × (get (codes "get") d ≡ None) × (get (codes "del") d ≡ None) × IsUnknown d
 IsAsked d Get at = (get (codes "put") d ≡ None) × (get (codes "get") d ≡ Some at) × (get (codes "del") d ≡ None)
-IsAsked d Del at = (get (codes "put") d ≡ None) × (get (codes "get") d ≡ None) × (get (codes "del") d ≡ Some at)
+IsAsked d Del at = (get (codes "put") d ≡ None) × (get (codes "get") d ≡ None) × (get (codes "del") d ≡ Some at) × (IsUnknown d → ⊥)
+IsAsked d MaybeDel at = (get (codes "put") d ≡ None) × (get (codes "get") d ≡ None) × (get (codes "del") d ≡ Some at) × IsUnknown d
 
 -- `IsAsked` with a legal key
 abbrev pub AsksKey : Data → Kind → List ℕ → Type 0
@@ -105,9 +113,11 @@ FoundDeletion d = (get (codes "value") d ≡ Some null) × (IsNothing (get (code
 -- what an operation of this kind put or got: a value, or none where it is a deletion or a get that found one
 abbrev pub GivesContent : Format → Data → Kind → Option (List ℕ) → Type 0
 GivesContent format d Put (Some value) = GivesValue format d value
+GivesContent format d MaybePut (Some value) = GivesValue format d value
 GivesContent format d Get (Some value) = GivesValue format d value
 GivesContent format d Get None = FoundDeletion d
 GivesContent format d Del None = IsNothing (get (codes "value") d)
+GivesContent format d MaybeDel None = IsNothing (get (codes "value") d)
 GivesContent format d _ _ = ⊥
 
 -- ---- the operation
@@ -121,18 +131,30 @@ GivesOp rules d (op.Gone key version) =
     AsksKey d Get key × GivesContent rules.format d Get None × GivesVersion rules.versions d version × Fits rules.format None
 GivesOp rules d (op.Missed key) = AsksKey d Get key × FoundNothing d
 
--- the object has this client's name and this operation
-abbrev pub Gives : Rules → Data → LineOp → Type 0
-Gives rules d reported = GivesName d reported.name × GivesOp rules d reported.op
+-- the kind of a put of unknown outcome, which is a deletion if it has no content
+abbrev pub maybe_kind : Option (List ℕ) → Kind
+maybe_kind (Some value) = MaybePut
+maybe_kind None = MaybeDel
+
+-- what a put or a deletion of unknown outcome writes: it has no version
+abbrev pub GivesWrite : Rules → Data → Write → Type 0
+GivesWrite rules d w =
+    AsksKey d (maybe_kind w.content) w.key × GivesContent rules.format d (maybe_kind w.content) w.content
+    × IsNothing (get (codes "version") d) × Fits rules.format w.content
+
+-- the object, of the line of this number, has this client's name and this operation
+abbrev pub Gives : Rules → ℕ → Data → Reported → Type 0
+Gives rules number d (Known reported) = GivesName d reported.name × GivesOp rules d reported.op
+Gives rules number d (Unknown put) = GivesName d put.name × GivesWrite rules d put.write × (put.line ≡ number)
 
 -- the line is the JSON text of such an object
-abbrev pub TextGives : Rules → List ℕ → LineOp → Type 0
-TextGives rules line reported = (d : Data) × IsJson line d × Gives rules d reported
+abbrev pub TextGives : Rules → ℕ → List ℕ → Reported → Type 0
+TextGives rules number line reported = (d : Data) × IsJson line d × Gives rules number d reported
 
 -- a blank line has no operation, and any other line has that of its object
-abbrev pub LineGives : Rules → List ℕ → Option LineOp → Type 0
-LineGives rules line None = IsBlank line
-LineGives rules line (Some reported) = (IsBlank line → ⊥) × TextGives rules line reported
+abbrev pub LineGives : Rules → ℕ → List ℕ → Option Reported → Type 0
+LineGives rules number line None = IsBlank line
+LineGives rules number line (Some reported) = (IsBlank line → ⊥) × TextGives rules number line reported
 
 -- ---- what is wrong with a line
 
@@ -160,13 +182,25 @@ HasForm (Ranked all) d = (of : AStoreVersion) × (d ≡ store_json of) × IsOfKi
 abbrev pub HasNoVersion : Versions → Data → Type 0
 HasNoVersion versions d = (at : Data) → get (codes "version") d ≡ Some at → HasForm versions at → ⊥
 
--- the version is missing, which any content needs
+-- the version is missing or wrong, which any content needs, or it is there though the outcome is unknown
+abbrev pub HasWrongVersion : Versions → Data → Kind → Type 0
+HasWrongVersion versions d MaybePut = IsNothing (get (codes "version") d) → ⊥
+HasWrongVersion versions d MaybeDel = IsNothing (get (codes "version") d) → ⊥
+HasWrongVersion versions d _ = HasNoVersion versions d
+
+-- the version is right
+abbrev pub HasRightVersion : Versions → Data → Kind → Type 0
+HasRightVersion versions d MaybePut = IsNothing (get (codes "version") d)
+HasRightVersion versions d MaybeDel = IsNothing (get (codes "version") d)
+HasRightVersion versions d _ = (version : ℕ) × GivesVersion versions d version
+
+-- the content is right, and the version is not
 abbrev pub LacksVersion : Rules → Data → Kind → Type 0
-LacksVersion rules d kind = (content : Option (List ℕ)) × GivesContent rules.format d kind content × HasNoVersion rules.versions d
+LacksVersion rules d kind = (content : Option (List ℕ)) × GivesContent rules.format d kind content × HasWrongVersion rules.versions d kind
 
 -- the operation is a deletion or a get that found one, which format 1 does not have
 abbrev pub LacksFormat : Rules → Data → Kind → Type 0
-LacksFormat rules d kind = (version : ℕ) × GivesContent rules.format d kind None × GivesVersion rules.versions d version × (rules.format ≡ One)
+LacksFormat rules d kind = GivesContent rules.format d kind None × HasRightVersion rules.versions d kind × (rules.format ≡ One)
 
 -- what is wrong with an object whose members checked before are right
 abbrev pub IsWrong : Rules → Data → JsonLineFault → Type 0

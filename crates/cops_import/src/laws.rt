@@ -4,7 +4,7 @@ ghost use Rattle.cops_import.specs.Line.{IsFaulty, IsOrdered, LineGives, LineLac
 ghost use Rattle.cops_import.specs.Lines.{LinesGive, lines};
 ghost use Rattle.cops_import.specs.Stores.{KeepsOrder};
 ghost use Rattle.cops_import.specs.declared.fault.JsonLineFault.{JsonLineFault as AFault};
-ghost use Rattle.cops_import.specs.declared.line.LineOp.{LineOp as AGivenOp};
+ghost use Rattle.cops_import.specs.declared.reported.Reported.{Reported as AReported};
 ghost use Rattle.cops_import.specs.declared.rules.Rules.{Rules as ARules};
 
 use crate::ranks::Ranks;
@@ -12,9 +12,9 @@ use crate::ranks::Ranks;
 /// However lines are read, those of a text describe at most one list of operations, and a line that describes one, or
 /// is blank, is not faulty, and does not lack a rank.
 pub fn lines_determine_one()
-    ensures one { (rules : ARules) → IsOrdered rules.versions → (bytes : List ℕ) (a b : List AGivenOp) → LinesGive rules (lines bytes) a → LinesGive rules (lines bytes) b → a ≡ b }
-    ensures right { (rules : ARules) → IsOrdered rules.versions → (line : List ℕ) (reported : Option AGivenOp) (fault : AFault) → LineGives rules line reported → IsFaulty rules line fault → ⊥ }
-    ensures ranked { (rules : ARules) → IsOrdered rules.versions → (line : List ℕ) (reported : Option AGivenOp) → LineGives rules line reported → LineLacksRank rules line → ⊥ }
+    ensures one { (rules : ARules) → IsOrdered rules.versions → (bytes : List ℕ) (a b : List AReported) → LinesGive rules (lines bytes) a → LinesGive rules (lines bytes) b → a ≡ b }
+    ensures right { (rules : ARules) → IsOrdered rules.versions → (number : ℕ) (line : List ℕ) (reported : Option AReported) (fault : AFault) → LineGives rules number line reported → IsFaulty rules line fault → ⊥ }
+    ensures ranked { (rules : ARules) → IsOrdered rules.versions → (number : ℕ) (line : List ℕ) (reported : Option AReported) → LineGives rules number line reported → LineLacksRank rules line → ⊥ }
 {}
 
 /// Ranks keep which versions of a store are equal, and their order.

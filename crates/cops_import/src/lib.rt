@@ -4,6 +4,7 @@
 //! keep the order of another store's versions.
 #![tactic(auto)]
 
+mod ending;
 mod fault;
 mod field;
 mod found;
@@ -15,8 +16,10 @@ mod line;
 mod name;
 mod names;
 mod not_given;
+mod outcome;
 mod ranks;
 mod reading;
+mod reported;
 mod rules;
 mod seen;
 mod store_version;
@@ -24,13 +27,15 @@ mod surveying;
 mod version;
 
 pub use fault::{ImportFault, JsonLineFault, faulty_line};
-pub use imported::{Imported, Unimported};
+pub use imported::{Imported, Unimported, outcome_counts};
 pub use importer::cut_line;
 pub use laws::{lines_determine_one, ranks_keep_order};
-pub use line::{LineOp, is_blank};
+pub use line::is_blank;
 pub use name::Name;
 pub use names::Names;
+pub use outcome::Outcome;
 pub use ranks::Ranks;
 pub use reading::import_stream;
-pub use rules::{Rules, Versions};
-pub use surveying::{Surveyed, survey};
+pub use reported::{LineOp, Reported, UnknownPut};
+pub use rules::{Expected, Rules, Versions};
+pub use surveying::{Surveyed, survey, survey_outcomes};

@@ -1,5 +1,6 @@
 //! How lines are read.
 use crate::ranks::Ranks;
+use cops_outcomes::Writes;
 use cops_types::Format;
 
 /// How the versions of lines are read.
@@ -16,4 +17,12 @@ pub enum Versions {
 pub struct Rules {
     pub format: Format,
     pub versions: Versions,
+}
+
+/// What lines are expected to have, as a survey found: the number of clients, which is that of the names and of the puts
+/// of unknown outcome that took effect, and what the puts of unknown outcome write.
+#[derive(Debug, Drop)]
+pub struct Expected {
+    pub clients: u16,
+    pub unknown: Writes,
 }

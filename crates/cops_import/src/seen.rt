@@ -12,6 +12,9 @@ const CLIENT: &[u8] = b"\"client\"";
 /// The member that holds a version.
 const VERSION: &[u8] = b"\"version\"";
 
+/// The member that says whether the outcome is unknown.
+const OK: &[u8] = b"\"ok\"";
+
 /// Each number with this many digits is below 2^64.
 const MOST_DIGITS: usize = 19;
 
@@ -33,6 +36,18 @@ pub(crate) fn seen_name(line: &[u8]) -> Option<&[u8]> {
     }
     let value = value_of(line, CLIENT)?;
     seen_text(value).or_else(|| seen_number(value))
+}
+
+/// Whether the outcome of the operation in a line, in which nothing is escaped, may be unknown: the line names the member
+/// `ok`, and does not have it once and true or false.
+pub(crate) fn may_be_unknown(line: &[u8]) -> bool {
+    if Finder::new(OK).find(line).is_none() {
+        return false;
+    }
+    match value_of(line, OK) {
+        Some(value) => !value.starts_with(b"true") && !value.starts_with(b"false"),
+        None => true,
+    }
 }
 
 /// The version in a line in which nothing is escaped: the member `version` occurs once, in the only object, with a

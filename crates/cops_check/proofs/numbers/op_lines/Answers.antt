@@ -1,4 +1,4 @@
-use Rattle.std.proofs.Common.{◌≡◌, ◌⊎◌, ◌∙◌, [], ◌∷◌, List, ℕ, length, refl, sym, arith, inl, inr}
+use Rattle.std.proofs.Common.{◌≡◌, ◌∙◌, [], ◌∷◌, List, ℕ, length, refl, sym, arith, inl, inr}
 use Rattle.cops_check.specs.Numbers.{numbers_after}
 use Rattle.cops_check.proofs.numbers.op_lines.Goals as goal
 

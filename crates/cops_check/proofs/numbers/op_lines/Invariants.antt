@@ -1,4 +1,4 @@
-use Rattle.std.proofs.Common.{◌≡◌, map, take, length, List, ℕ}
+use Rattle.std.proofs.Common.{◌≡◌, map}
 use Rattle.cops_check.specs.Numbers.{numbers_after, op_lines}
 use Rattle.cops_check.proofs.numbers.op_lines.Given as goal
 

@@ -20,9 +20,9 @@ returns-in-Err-asked-clause-wrong c = λ fault e.
     let same : c.in-Err-asked.fault ≡ fault = cc in
     subst (IsWrong rules (view c.args.object.now)) same (c.in-Err-asked.ensures.wrong rules (c.in-Ok.name, c.in-Ok.ensures.reported))
 
-pub returns-in-Err-op-clause-wrong : goal.returns-in-Err-op-clause-wrong
-returns-in-Err-op-clause-wrong c = λ fault e.
+pub returns-in-Err-action_of-clause-wrong : goal.returns-in-Err-action_of-clause-wrong
+returns-in-Err-action_of-clause-wrong c = λ fault e.
     let rules : Rules = record { format = c.args.format; versions = c.args.versions.now } in
-    let same : c.in-Err-op.not_given ≡ Fault fault = cc in
+    let same : c.in-Err-action_of.not_given ≡ Fault fault = cc in
     let asked = c.in-Ok-asked.asked in
-    wrong_of rules (view c.args.object.now) asked.0 (view asked.1.now) fault (c.in-Ok.name, c.in-Ok.ensures.reported) c.in-Ok-asked.ensures.one (c.in-Err-op.ensures.wrong fault (ap Err same))
+    wrong_of rules (view c.args.object.now) asked.0 (view asked.1.now) fault (c.in-Ok.name, c.in-Ok.ensures.reported) c.in-Ok-asked.ensures.one (c.in-Err-action_of.ensures.wrong fault (ap Err same))

@@ -9,7 +9,7 @@ use Rattle.cops_import.proofs.reading.read_lines.Goals as goal
 pub returns-in-Err-clause-err : goal.returns-in-Err-clause-err
 returns-in-Err-clause-err g c = λ from u.
     let now = c.loop.invariant.fed.3 from u in
-    record { cut = cut_so_far g.W.Write.contents from _ _ now.taken.wrote; heard = now.taken.wrote.heard }
+    record { cut = cut_so_far g.W.Write.contents from _ _ now.taken.ops.wrote; heard = now.taken.ops.wrote.heard }
 
 pub returns-in-Err-take_piece-clause-err : goal.returns-in-Err-take_piece-clause-err
 returns-in-Err-take_piece-clause-err g c = λ from u. (c.in-Err-take_piece.ensures.err from c.loop.invariant.fed.0 (c.loop.invariant.fed.3 from u)).left
@@ -18,7 +18,7 @@ pub returns-in-Err-take_piece-clause-fault : goal.returns-in-Err-take_piece-clau
 returns-in-Err-take_piece-clause-fault g c = λ from u.
     let read = c.loop.invariant.fed in
     let stop = c.in-Err-take_piece.ensures.err from read.0 (read.3 from u) in
-    fault_as _ _ _ _ _ c.in-Err-take_piece.fault c.loop.invariant.rules c.loop.invariant.clients
+    fault_as _ _ _ _ _ c.in-Err-take_piece.fault c.loop.invariant.rules c.loop.invariant.expected
     (fault_read _ _ _ read.0 (take c.in-Ok.count c.read.new.buf) _ _ c.in-Err-take_piece.fault read.1 c.in-Ok.ensures.bytes.0 stop.says)
 
 pub loop-preserved : goal.loop-preserved
@@ -28,7 +28,7 @@ loop-preserved g c =
     record {
       fed = (read.0 ++ taken, consumed _ _ _ read.0 taken read.1 c.in-Ok.ensures.bytes.0, omega (arith, length-append read.0 taken, c.in-Ok.ensures.bound.1, read.2, c.if-count-eq0.false), λ from u. c.in-Ok-take_piece.ensures.ok from read.0 (read.3 from u));
       count = c.in-Ok.ensures.count ∙ c.loop.invariant.count;
-      clients = c.in-Ok-take_piece.ensures.clients ∙ c.loop.invariant.clients;
+      expected = c.in-Ok-take_piece.ensures.expected ∙ c.loop.invariant.expected;
       rules = c.in-Ok-take_piece.ensures.rules ∙ c.loop.invariant.rules;
     }
 
@@ -41,7 +41,7 @@ returns-then-count-eq0-clause-ok g c = λ from u.
 pub returns-clause-err : goal.returns-clause-err
 returns-clause-err g c = λ from u.
     let now = c.loop.invariant.fed.3 from u in
-    record { cut = cut_so_far g.W.Write.contents from _ _ now.taken.wrote; heard = now.taken.wrote.heard }
+    record { cut = cut_so_far g.W.Write.contents from _ _ now.taken.ops.wrote; heard = now.taken.ops.wrote.heard }
 
 pub returns-clause-fault : goal.returns-clause-fault
 returns-clause-fault g c = λ from u.

@@ -10,7 +10,9 @@ returns-in_default-clause-err g c = λ from fed u.
 pub returns-in-Ok-clause-ok : goal.returns-in-Ok-clause-ok
 returns-in-Ok-clause-ok g c = λ from fed u.
     let took = c.in-Ok.ensures.ok from u.given u.taken in
-    line_ended g.W.Write.contents from fed c.args.self.now _ took.0 u took.1 (record { names = took.2.names; operations = took.2.operations; wrote = took.2.wrote }) c.clear.ensures.items (search rules) c.in-Ok.ensures.rules
+    line_ended g.W.Write.contents from fed c.args.self.now _ c.in-Some.number took.0 u (search rules) took.1
+    (record { ops = record { names = took.2.ops.names; few = took.2.ops.few; operations = took.2.ops.operations; wrote = took.2.ops.wrote }; sighted = took.2.sighted; unknown = took.2.unknown; listed = took.2.listed })
+    c.clear.ensures.items refl c.in-Ok.ensures.rules
 
 pub returns-in-Err-clause-err : goal.returns-in-Err-clause-err
 returns-in-Err-clause-err g c = λ from fed u.

@@ -10,5 +10,5 @@ returns-in-Err-clause-err g c = λ from fed u.
 pub returns-in-Err-end_line-clause-err : goal.returns-in-Err-end_line-clause-err
 returns-in-Err-end_line-clause-err g c = λ from fed u.
     let part = c.args.part.now in
-    stopped_as g.W.Write.contents from (fed ++ part ++ 10 ∷ []) c.in-Err-end_line.fault _ _ _ _ c.end_line.new.self.writer.writer c.in-Ok.ensures.rules c.in-Ok.ensures.clients
+    stopped_as g.W.Write.contents from (fed ++ part ++ 10 ∷ []) c.in-Err-end_line.fault _ _ _ _ c.end_line.new.self.writer.writer c.in-Ok.ensures.rules c.in-Ok.ensures.expected
     (c.in-Err-end_line.ensures.err from (fed ++ part) (c.in-Ok.ensures.ok from fed u))

@@ -4,11 +4,11 @@ use Rattle.cops_types.specs.Operations.{operation_of}
 use Rattle.cops_trace.specs.Counts.{ACounts, HasTurn}
 use Rattle.cops_import.specs.Lines.{names_of}
 use Rattle.cops_import.specs.Names.{number_of, with_name}
-use Rattle.cops_import.specs.Underway.{format_of, trace_to}
-use Rattle.cops_import.specs.declared.line.LineOp.{LineOp}
+use Rattle.cops_import.specs.Underway.{format_of, known_to}
+use Rattle.cops_import.specs.declared.reported.LineOp.{LineOp}
 use Rattle.cops_import.proofs.Numbering.{names_more}
-use Rattle.cops_import.proofs.Records.{cut_so_far, left_refused, taken_more, too_many, written_more}
-use Rattle.cops_import.proofs.importer.Importer.take.Goals as goal
+use Rattle.cops_import.proofs.Records.{cut_so_far, left_refused, ops_more, too_many, written_more}
+use Rattle.cops_import.proofs.importer.Importer.write.Goals as goal
 
 pub returns-in_default-clause-err : goal.returns-in_default-clause-err
 returns-in_default-clause-err g c = λ from given h. record { cut = cut_so_far g.W.Write.contents from _ _ h.wrote; heard = tt }
@@ -37,12 +37,13 @@ pub returns-in-Ok-op-clause-ok : goal.returns-in-Ok-op-clause-ok
 returns-in-Ok-op-clause-ok g c = λ from given h.
     let reported : LineOp = record { name = c.args.name; op = c.args.op.now } in
     let turn : HasTurn c.args.self.now.writer.counts c.in-Ok.client = search rules in
-    let wrote = written_more g.W.Write.contents from (trace_to (format_of c.args.self.now) c.args.self.now.clients given) c.args.self.now.writer c.op.new.self c.in-Ok.client (operation_of c.args.op.now) h.wrote turn c.requires
+    let wrote = written_more g.W.Write.contents from (known_to (format_of c.args.self.now) c.args.self.now.clients given) c.args.self.now.writer c.op.new.self c.in-Ok.client (operation_of c.args.op.now) h.wrote turn c.requires
     c.in-Ok-op.ensures.ok c.in-Ok-op.ensures.counts c.in-Ok-op.ensures.written c.in-Ok-op.ensures.heard in
-    taken_more g.W.Write.contents from given reported c.args.self.now _ c.in-Ok.client h refl (ap (λ (n : ACounts). n.format) c.in-Ok-op.ensures.counts) c.in-Ok.ensures.names c.saturating_add-self.ensures c.in-Ok.ensures.number turn wrote
+    let few : length c.number.new.self ≤ c.args.self.now.clients = search rules in
+    ops_more g.W.Write.contents from given reported c.args.self.now _ c.in-Ok.client h refl (ap (λ (n : ACounts). n.format) c.in-Ok-op.ensures.counts) c.in-Ok.ensures.names c.saturating_add-self.ensures c.in-Ok.ensures.number few turn wrote
 
 pub returns-in-Err-clause-err : goal.returns-in-Err-clause-err
 returns-in-Err-clause-err g c = λ from given h.
     let turn : HasTurn c.args.self.now.writer.counts c.in-Ok.client = search rules in
-    rw c.from-in-Err.ensures (left_refused g.W.Write.contents from (trace_to (format_of c.args.self.now) c.args.self.now.clients given) c.args.self.now.writer c.op.new.self c.in-Ok.client (operation_of c.args.op.now) c.in-Err.fault h.wrote turn c.requires
+    rw c.from-in-Err.ensures (left_refused g.W.Write.contents from (known_to (format_of c.args.self.now) c.args.self.now.clients given) c.args.self.now.writer c.op.new.self c.in-Ok.client (operation_of c.args.op.now) c.in-Err.fault h.wrote turn c.requires
     c.in-Err.ensures.err c.in-Err.ensures.failed)
