@@ -1,5 +1,5 @@
 -- The program's command, as far as it decides how words are read.
-use Rattle.std.specs.Prelude.{codes, pos, true, [], Some}
+use Rattle.std.specs.Prelude.{ℕ, codes, pos, true, [], Some}
 use Rattle.clap.specs.Words.{App, Rule, Text, new_app, new_rule, with_rule, with_subcommand}
 use Rattle.clap.specs.Simple.{new_shape}
 use Rattle.clap.specs.declared.builder.action.ArgAction.TheVariants.{Set, SetTrue}
@@ -8,17 +8,25 @@ use Rattle.clap.specs.declared.builder.value_parser.ValueParser.TheVariants as p
 use Rattle.cops_types.specs.declared.limits.TheConstants.{MAX_OPS, MAX_WORKERS}
 use Rattle.cops_command_line.specs.declared.job.TheConstants.{MAX_PORT, MAX_SESSIONS, MAX_IDLE}
 
--- a required argument that takes one word
+-- an argument that takes one word
+abbrev pub taking : Text → Rule
+taking id = record (new_rule id) { action = Some Set; value_names = 1 }
+
+-- one that is required, and stands in its place
 abbrev pub positional : Text → Rule
-positional id = record (new_rule id) { action = Some Set; required = true; value_names = 1 }
+positional id = record (taking id) { required = true }
 
 -- an option that takes one word, and may be left out
 abbrev pub value_option : Text → Rule
-value_option id = record (new_rule id) { long = Some id; action = Some Set; value_names = 1 }
+value_option id = record (taking id) { long = Some id }
 
--- an option that takes a number, and may be left out
-abbrev pub number_option : Text → ValueParser → Rule
-number_option id number = record (value_option id) { parser = Some number }
+-- the numbers from 1 to the most
+abbrev pub numbers_to : ℕ → ValueParser
+numbers_to most = parser.Signed (pos 1) (pos most)
+
+-- an option that takes a number from 1 to the most, and may be left out
+abbrev pub number_option : Text → ℕ → Rule
+number_option id most = record (value_option id) { parser = Some (numbers_to most) }
 
 -- an option that takes no value, and may be left out
 abbrev pub flag_option : Text → Rule
@@ -26,7 +34,7 @@ flag_option id = record (new_rule id) { long = Some id; action = Some SetTrue }
 
 -- `--workers N`, which may be left out and takes a number from 1 to 64
 abbrev pub workers_option : Rule
-workers_option = number_option (codes "workers") (parser.Signed (pos 1) (pos MAX_WORKERS))
+workers_option = number_option (codes "workers") MAX_WORKERS
 
 -- `--so-far`, which may be left out and takes no value
 abbrev pub so_far_option : Rule
@@ -38,7 +46,7 @@ all_option = flag_option (codes "all")
 
 -- `--fault N`, which may be left out and takes a number from 1 to 16,000,000
 abbrev pub fault_option : Rule
-fault_option = number_option (codes "fault") (parser.Signed (pos 1) (pos MAX_OPS))
+fault_option = number_option (codes "fault") MAX_OPS
 
 -- `--picture FILE`, which may be left out
 abbrev pub picture_option : Rule
@@ -54,19 +62,19 @@ rank_option = flag_option (codes "rank")
 
 -- `--format N`, which may be left out and takes 1 or 2
 abbrev pub format_option : Rule
-format_option = number_option (codes "format") (parser.Signed (pos 1) (pos 2))
+format_option = number_option (codes "format") 2
 
 -- `PORT`, which is required, and is a number from 1 to 65,535
 abbrev pub port_argument : Rule
-port_argument = record (positional (codes "port")) { parser = Some (parser.Signed (pos 1) (pos MAX_PORT)) }
+port_argument = record (positional (codes "port")) { parser = Some (numbers_to MAX_PORT) }
 
 -- `--sessions N`, which may be left out and takes a number from 1 to 65,535
 abbrev pub sessions_option : Rule
-sessions_option = number_option (codes "sessions") (parser.Signed (pos 1) (pos MAX_SESSIONS))
+sessions_option = number_option (codes "sessions") MAX_SESSIONS
 
 -- `--idle SECONDS`, which may be left out and takes a number from 1 to 65,535
 abbrev pub idle_option : Rule
-idle_option = number_option (codes "idle") (parser.Signed (pos 1) (pos MAX_IDLE))
+idle_option = number_option (codes "idle") MAX_IDLE
 
 -- `audit TRACE`, with `--workers N` or without it, and with `--so-far` or without it
 abbrev pub audit_app : App

@@ -37,8 +37,8 @@ pub enum Job<'a> {
         trace: &'a str,
         wanted: Wanted<'a>,
     },
-    /// Judge the history that lines describe and explain its faults, with the versions of the lines by their ranks or as
-    /// they stand. `-` as the lines is standard input.
+    /// Judge the history that lines describe and explain its faults, with the versions of the lines by their ranks or
+    /// as they stand. `-` as the lines is standard input.
     Check {
         lines: &'a str,
         is_ranked: bool,

@@ -29,8 +29,8 @@ fn as_fault(alloc: Global, error: &Error) -> LineFault
 }
 
 /// The fault for words that the command takes, though they are no job: those of `explain` and `check` with both `--all`
-/// and `--fault`, and those of `audit` with both `--so-far` and `--workers`. No other words are without a job, though that
-/// is not proved, as no clause says that a required argument has a value.
+/// and `--fault`, and those of `audit` with both `--so-far` and `--workers`. No other words are without a job, though
+/// that is not proved, as no clause says that a required argument has a value.
 fn no_job(alloc: Global, subcommand: Option<&str>) -> LineFault
     ensures { Reports ArgumentConflict result }
 {

@@ -1,12 +1,21 @@
 //! The texts of help, usage and version.
 
-pub const ABOUT: &str =
-    "A COPS cluster in one process, and an auditor of the histories that clients recorded";
+/// A text that stands in the program.
+pub type Text = &'static str;
 
 /// The version of the program, and the Rattle toolchain and its logic with which it is proved and built.
 pub const VERSION: &str = "0.1.0 (rattle-kit-13b, logic dac8208d650f15bf)";
 
-pub const LONG_ABOUT: &str = "\
+/// What the help says of a command: in one line, and at length.
+#[derive(Clone, Copy, Debug)]
+pub struct About {
+    pub short: Text,
+    pub long: Text,
+}
+
+pub const ABOUT: About = About {
+    short: "A COPS cluster in one process, and an auditor of the histories that clients recorded",
+    long: "\
 A COPS cluster in one process, and an auditor of the histories that clients recorded.
 
 A trace is a file that records what each client of a store put and got. The auditor accepts it
@@ -18,11 +27,12 @@ the clients of such a cluster.
 The exit status is 0 where the trace is accepted, or not refused so far, or the command did its
 work, 1 where the trace is refused, or refused so far, 2 where the input or the words are faulty,
 3 where memory ran out, and 4 where a file could not be opened, read or written, or a run, a
-serving or an import failed.";
+serving or an import failed.",
+};
 
-pub const AUDIT_ABOUT: &str = "Judges whether a recorded history is causally convergent";
-
-pub const AUDIT_LONG_ABOUT: &str = "\
+pub const AUDIT_ABOUT: About = About {
+    short: "Judges whether a recorded history is causally convergent",
+    long: "\
 Judges whether a recorded history is causally convergent.
 
 Prints one line, `accepted: ..`, or `refused: ..` and a line for each operation at fault with
@@ -31,11 +41,12 @@ what is wrong and at which byte.
 
 With --so-far a trace that is cut is judged by the whole records before the cut: it prints where
 the trace is cut, and then `so far: clean`, `so far: waiting N` where N gets have no put of their
-version yet, or `so far: refused` where a fault is there that no further record takes away.";
+version yet, or `so far: refused` where a fault is there that no further record takes away.",
+};
 
-pub const EXPLAIN_ABOUT: &str = "Explains the faults of a recorded history";
-
-pub const EXPLAIN_LONG_ABOUT: &str = "\
+pub const EXPLAIN_ABOUT: About = About {
+    short: "Explains the faults of a recorded history",
+    long: "\
 Explains the faults of a recorded history: of each, which operations show it.
 
 Without --all and --fault the first 20 faults are explained. The last line names the classes of
@@ -43,30 +54,34 @@ faults that were not looked for, where there are any. With --picture one fault i
 the one of --fault or else the first, and the file of the picture is written anew: it is empty
 where there is no such fault. Where the picture goes to standard output, the words go to standard
 error. A file that is no trace is answered with one line, `faulty: ..`, that says what is wrong and
-at which byte. With --json the answer is one JSON object, also where the file is no trace.";
+at which byte. With --json the answer is one JSON object, also where the file is no trace.",
+};
 
-pub const CHECK_ABOUT: &str = "Judges what the clients of a store saw, and explains the faults";
-
-pub const CHECK_LONG_ABOUT: &str = "\
+pub const CHECK_ABOUT: About = About {
+    short: "Judges what the clients of a store saw, and explains the faults",
+    long: "\
 Judges JSON Lines that say what the clients of a store saw, and explains the faults by the names
 and lines of the file.
 
 The lines are those of `cops import --format 2`, which is judged as by `cops audit`, without a trace
-file. The verdict is printed, and where it is `refused: ..`, of each fault which operations show it,
-each by the name of its client and the number of its line. The options are those of `cops explain`.
-The first line that is wrong is answered with one line, `faulty: line N: ..`.";
+file. The verdict is printed, then how many puts of unknown outcome took effect, if there are any,
+and where it is `refused: ..`, of each fault which operations show it, each by the name of its
+client and the number of its line. The options are those of `cops explain`. The first line that is
+wrong is answered with one line, `faulty: line N: ..`.",
+};
 
-pub const SHOW_ABOUT: &str = "Prints a trace as text, a line for each frame";
-
-pub const SHOW_LONG_ABOUT: &str = "\
+pub const SHOW_ABOUT: About = About {
+    short: "Prints a trace as text, a line for each frame",
+    long: "\
 Prints a trace as text: a line for each frame, with its kind and its fields.
 
 Where the file is no whole trace, the frames before the fault are printed, and then one line,
-`faulty: ..`, that says what is wrong and at which byte.";
+`faulty: ..`, that says what is wrong and at which byte.",
+};
 
-pub const IMPORT_ABOUT: &str = "Makes a trace of what the clients of another store saw";
-
-pub const IMPORT_LONG_ABOUT: &str = "\
+pub const IMPORT_ABOUT: About = About {
+    short: "Makes a trace of what the clients of another store saw",
+    long: "\
 Makes a trace of JSON Lines that tell what the clients of another store saw.
 
 A line is one operation, a JSON object, and each client's lines stand in the order in which it
@@ -74,49 +89,60 @@ did them. Its members are client, a text or a whole number; put, get or del, the
 and version, a text `clock.node`, a whole number, which is a clock at node 0, or a list of both.
 A get that found nothing has the value null, and a version that is null or missing. With --format 2
 there may be deletions, which have no value or null, and gets that found one, with the value null
-and its version. Other members, and lines of blanks, are passed over.
+and its version.
+
+A put or a deletion whose outcome is unknown, since its client got no answer, has the member ok with
+the value null, and a version that is null or missing. It takes effect where a get returned it, as
+the operation of a client of its own; the others are left out. Other members, and lines of blanks,
+are passed over.
 
 With --rank versions are whole numbers below 2^64, or texts, which are compared by their bytes, or
 lists of such a number and a text, as a timestamp and what breaks ties; all of one kind. The least
 one of the file gets the clock 1, the next the clock 2, and so on.
 
-Prints a line `client N NAME` for each client with its number in the trace, and then
-`imported: N operations, M clients`. The first line that is wrong is answered with one line,
-`faulty: line N: ..`, and an older trace file stays as it was. The lines are read twice: those of
-standard input or of a pipe are kept in a file meanwhile, in the folder that TMPDIR names, or else
-in /tmp, and so is the trace until it is whole. Where the trace goes to standard output, all that is
-printed goes to standard error.";
+Prints a line `client N NAME` for each client with its number in the trace, one
+`client N NAME, line L` for each put or deletion of unknown outcome that took effect, and then
+`imported: N operations, M clients`. Where outcomes are unknown, the last line is
+`unknown outcomes: N took effect, M left out`. The first line that is wrong is answered with one
+line, `faulty: line N: ..`, and an older trace file stays as it was. The lines are read more than
+once: those of standard input or of a pipe are kept in a file meanwhile, in the folder that TMPDIR
+names, or else in /tmp, and so is the trace until it is whole. Where the trace goes to standard
+output, all that is printed goes to standard error.",
+};
 
-pub const CONVERT_ABOUT: &str = "Writes a trace as one of format 2";
-
-pub const CONVERT_LONG_ABOUT: &str = "\
+pub const CONVERT_ABOUT: About = About {
+    short: "Writes a trace as one of format 2",
+    long: "\
 Writes a trace of format 1 or 2 as one of format 2, with the same clients and operations.
 
 Prints `converted: N operations`. A file that is no trace is answered with one line, `faulty: ..`,
 that says what is wrong and at which byte, and an older file of the new trace stays as it was. Where
-the new trace goes to standard output, all that is printed goes to standard error.";
+the new trace goes to standard output, all that is printed goes to standard error.",
+};
 
-pub const RUN_ABOUT: &str = "Runs a scenario, and records what its clients saw";
-
-pub const RUN_LONG_ABOUT: &str = "\
+pub const RUN_ABOUT: About = About {
+    short: "Runs a scenario, and records what its clients saw",
+    long: "\
 Runs the cluster that a scenario describes, and records what its clients saw.
 
 Prints a line for each event with its outcome, or, where clients have scripts, a line for each
 client, and then the report of the recorded history. Clients with scripts run on threads of their
 own, and their trace is written meanwhile. The trace file is written anew. A scenario that is
 mistaken is answered with one line, `faulty: ..`, that names the field. Where the trace goes to
-standard output, all that is printed goes to standard error.";
+standard output, all that is printed goes to standard error.",
+};
 
-pub const SERVE_ABOUT: &str = "Serves clients of a scenario's cluster on a port of this machine";
-
-pub const SERVE_LONG_ABOUT: &str = "\
+pub const SERVE_ABOUT: About = About {
+    short: "Serves clients of a scenario's cluster on a port of this machine",
+    long: "\
 Serves the clients of the cluster that a scenario describes, on a port of 127.0.0.1.
 
 One client is connected at a time. It first says which client of the scenario it is, and then
 puts and gets in that client's data centre. When it has gone, its puts are sent to the other data
 centres, and the next client is served. With --idle a client that sends nothing, or reads nothing,
 for that many seconds is disconnected. After the last session cops prints the report on what all
-clients saw, and ends.";
+clients saw, and ends.",
+};
 
 pub const PORT_HELP: &str = "The port to listen on, 1 to 65535";
 

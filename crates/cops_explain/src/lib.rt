@@ -31,5 +31,5 @@ pub use explaining::explain;
 pub use laws::{known_by_its_client, one_explanation};
 pub use limits::{FIRST_FAULTS, MOST_OTHERS, VALUE_BYTES};
 pub use naming::{LineNames, NamedHistory, Naming};
-pub use others::others as other_puts;
 pub use pictures::picture;
+pub use refused::Refused;

@@ -1,13 +1,14 @@
 //! The other puts with an operation's version.
 ghost use Rattle.std.specs.Prelude.{◌≡◌, ◌↔◌, Contains, IfOk, IsTrue};
 ghost use Rattle.cops_types.specs.declared.op.OpName.{OpName};
-ghost use Rattle.cops_report.specs.Puts.{HasAllPuts};
 ghost use Rattle.cops_report.specs.Reports.{HasSomeVersion, version_at};
 ghost use Rattle.cops_explain.specs.Others.{AreOthers, IsOther};
+ghost use Rattle.cops_explain.specs.Refused.{HasItsPuts, history_of};
 
+use crate::refused::Refused;
 use cops_report::{from_version, version_at};
-use cops_types::{History, OpName, Version, VersionedPut};
-use std::alloc::{AllocError, Global};
+use cops_types::{History, OpName, Version};
+use std::alloc::AllocError;
 
 /// Whether `other` is another put with an operation's version.
 fn is_other(history: &History, name: OpName, version: Version, other: OpName) -> bool
@@ -20,20 +21,17 @@ fn is_other(history: &History, name: OpName, version: Version, other: OpName) ->
     }
 }
 
-/// The other puts with an operation's version, in the order of `puts`.
-fn holders(
-    alloc: Global,
-    history: &History,
-    puts: &[VersionedPut],
-    name: OpName,
-) -> Result<Vec<OpName>, AllocError>
-    requires puts { HasAllPuts history.now.sessions puts.now }
-    requires version { HasSomeVersion history.now.sessions name }
-    ensures { IfOk result (λ names. (n : OpName) → Contains names.items n ↔ IsOther history.now.sessions name n) }
+/// The other puts with an operation's version, in the order of the puts.
+fn holders(refused: Refused<'_>, name: OpName) -> Result<Vec<OpName>, AllocError>
+    requires puts { HasItsPuts refused }
+    requires version { HasSomeVersion (history_of refused).sessions name }
+    ensures { IfOk result (λ names. (n : OpName) →
+        Contains names.items n ↔ IsOther (history_of refused.entry).sessions name n) }
 {
+    let history = refused.named.history;
     let version = version_at(history, name);
-    let mut names = Vec::new(alloc);
-    for put in from_version(puts, version) {
+    let mut names = Vec::new(refused.alloc);
+    for put in from_version(refused.puts, version) {
         if put.version != version {
             return Ok(names);
         }
@@ -44,19 +42,16 @@ fn holders(
     Ok(names)
 }
 
-/// The other puts with an operation's version, in order of names. `puts` are all puts, in order of versions.
-pub fn others(
-    alloc: Global,
-    history: &History,
-    puts: &[VersionedPut],
-    name: OpName,
-) -> Result<Vec<OpName>, AllocError>
-    requires puts { HasAllPuts history.now.sessions puts.now }
-    requires version { HasSomeVersion history.now.sessions name }
-    ensures { IfOk result (λ names. AreOthers history.now.sessions name names.items) }
-{
-    let mut names = holders(alloc, history, puts, name)?;
-    names.sort_unstable();
-    names.dedup();
-    Ok(names)
+impl Refused<'_> {
+    /// The other puts with an operation's version, in order of names.
+    pub fn others(self, name: OpName) -> Result<Vec<OpName>, AllocError>
+        requires puts { HasItsPuts self }
+        requires version { HasSomeVersion (history_of self).sessions name }
+        ensures { IfOk result (λ names. AreOthers (history_of self.entry).sessions name names.items) }
+    {
+        let mut names = holders(self, name)?;
+        names.sort_unstable();
+        names.dedup();
+        Ok(names)
+    }
 }

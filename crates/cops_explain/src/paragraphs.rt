@@ -13,11 +13,9 @@ use crate::limits::MOST_OTHERS;
 use crate::names::{push_fault, push_name};
 use crate::naming::NamedHistory;
 use crate::operation::{push_act, push_line, push_lines, push_reported};
-use crate::others::others;
 use crate::refused::Refused;
 use crate::steps::{known_by, push_chain};
 use cops_audit::{Fault, NotAbove, Stale};
-use cops_report::chain_by;
 use cops_types::{History, Memory, OpName, OpRef};
 use std::fmt::Write;
 
@@ -168,21 +166,9 @@ fn stale(out: &mut String, refused: Refused<'_>, fault: Stale) -> Result<(), Mem
     ensures { OnOk result
         (AddsShown (history_of refused.entry) (Fault.Stale fault) (string_bytes out.old) (string_bytes out.new)) }
 {
-    let named = refused.named;
-    let found = chain_by(
-        refused.alloc,
-        named.history,
-        refused.puts,
-        fault.newer,
-        fault.op,
-    )?;
-    match found {
-        Some(chain) => {
-            push_stale(out, named, fault, &chain)?;
-            Ok(())
-        }
-        None => unreachable!(),
-    }
+    let chain = refused.chain(fault)?;
+    push_stale(out, refused.named, fault, &chain)?;
+    Ok(())
 }
 
 /// Adds what shows a fault, by its class.
@@ -194,13 +180,13 @@ fn push_shown(out: &mut String, refused: Refused<'_>, fault: Fault) -> Result<()
     let named = refused.named;
     match fault {
         Fault::Doubled(name) => {
-            let others = others(refused.alloc, refused.named.history, refused.puts, name)?;
+            let others = refused.others(name)?;
             let words = "no other put may have that version, and these do:\n";
             push_said(out, named, name, words)?;
             push_others(out, named, &others)?;
         }
         Fault::NoSource(name) => {
-            let holders = others(refused.alloc, refused.named.history, refused.puts, name)?;
+            let holders = refused.others(name)?;
             push_said(out, named, name, "no put has that key, value and version\n")?;
             push_holders(out, named, &holders)?;
         }

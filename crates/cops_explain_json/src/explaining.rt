@@ -2,6 +2,7 @@ ghost use Rattle.std.specs.Prelude.{◌≡◌, codes, map, IfOk, OnOk};
 ghost use Rattle.serde_json.specs.View.{view};
 ghost use Rattle.cops_audit.specs.Faults.{faults_of};
 ghost use Rattle.cops_audit.specs.Verdicts.{IsVerdict};
+ghost use Rattle.cops_explain.specs.Refused.{HasItsFaults, HasItsPuts, history_of};
 ghost use Rattle.cops_explain_json.specs.Objects.{members_in, object_json, with_members};
 ghost use Rattle.cops_explain_json.specs.Operations.{seen};
 ghost use Rattle.cops_explain_json.specs.Explanations.{AreAsked, IsExplainedJson, IsVerdictJson, class_text, later_classes, outcome_members, outcomes_json, refusal_members, texts_json, verdict_members};
@@ -9,7 +10,7 @@ ghost use Rattle.cops_explain_json.specs.Explanations.{AreAsked, IsExplainedJson
 use crate::faults::{faults_json, one_fault};
 use crate::object::{Object, line_of};
 use cops_audit::{Faults, Verdict};
-use cops_explain::{FIRST_FAULTS, NamedHistory, Naming};
+use cops_explain::{FIRST_FAULTS, NamedHistory, Naming, Refused};
 use cops_outcomes::OutcomeCounts;
 use cops_report::put_table;
 use cops_types::{History, Memory, Selection};
@@ -17,20 +18,16 @@ use serde_json::{Value as Json, json};
 use std::alloc::{AllocError, Global};
 
 /// The objects of the faults that are asked for.
-fn asked_json(
-    alloc: Global,
-    named: &NamedHistory<'_>,
-    faults: &Faults,
-    asked: Selection,
-) -> Result<Vec<Json>, Memory>
-    requires { IsVerdict named.now.history.now.sessions (Verdict.Refused faults.now) }
-    ensures { IfOk result (λ list. AreAsked (seen named.now) (faults_of faults.now) asked (map view list.items)) }
+fn asked_json(refused: Refused<'_>, asked: Selection) -> Result<Vec<Json>, Memory>
+    requires puts { HasItsPuts refused }
+    requires faults { HasItsFaults refused }
+    ensures { IfOk result (λ list.
+        AreAsked (history_of refused.entry) (faults_of refused.entry.faults.now) asked (map view list.items)) }
 {
-    let puts = put_table(alloc, named.history)?;
     match asked {
-        Selection::First => faults_json(alloc, named, &puts, faults, FIRST_FAULTS),
-        Selection::All => faults_json(alloc, named, &puts, faults, faults.len()),
-        Selection::One(number) => one_fault(alloc, named, &puts, faults, number),
+        Selection::First => faults_json(refused, FIRST_FAULTS),
+        Selection::All => faults_json(refused, refused.faults.len()),
+        Selection::One(number) => one_fault(refused, number),
     }
 }
 
@@ -123,18 +120,17 @@ fn accepted_json(alloc: Global, named: &NamedHistory<'_>) -> Result<Json, AllocE
 }
 
 /// The object of a refused history, with the faults that are asked for.
-fn refused_json(
-    alloc: Global,
-    named: &NamedHistory<'_>,
-    faults: &Faults,
-    asked: Selection,
-) -> Result<Json, Memory>
-    requires { IsVerdict named.now.history.now.sessions (Verdict.Refused faults.now) }
-    ensures { IfOk result (λ json. IsVerdictJson (seen named.now) (Verdict.Refused faults.now) asked (view json)) }
+fn refused_json(refused: Refused<'_>, asked: Selection) -> Result<Json, Memory>
+    requires puts { HasItsPuts refused }
+    requires faults { HasItsFaults refused }
+    ensures { IfOk result (λ json.
+        IsVerdictJson (history_of refused.entry) (Verdict.Refused refused.entry.faults.now) asked (view json)) }
 {
-    let explained = asked_json(alloc, named, faults, asked)?;
+    let alloc = refused.alloc;
+    let faults = refused.faults;
+    let explained = asked_json(refused, asked)?;
     let mut object = Object::new(alloc);
-    add_verdict(alloc, &mut object, named, "refused", faults.len())?;
+    add_verdict(alloc, &mut object, &refused.named, "refused", faults.len())?;
     add_refusal(alloc, &mut object, faults, explained)?;
     Ok(object.into_json())
 }
@@ -151,7 +147,16 @@ fn verdict_json(
 {
     match verdict {
         Verdict::Accepted(_) => Ok(accepted_json(alloc, named)?),
-        Verdict::Refused(faults) => refused_json(alloc, named, faults, asked),
+        Verdict::Refused(faults) => {
+            let puts = put_table(alloc, named.history)?;
+            let refused = Refused {
+                alloc,
+                named: *named,
+                puts: &puts,
+                faults,
+            };
+            refused_json(refused, asked)
+        }
     }
 }
 

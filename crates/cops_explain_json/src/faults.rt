@@ -1,12 +1,8 @@
 //! Faults as JSON objects.
 ghost use Rattle.std.specs.Prelude.{◌≡◌, ◌++◌, map, take, IfOk, OnOk};
 ghost use Rattle.serde_json.specs.View.{view};
-ghost use Rattle.cops_types.specs.Faults.{IsStale};
 ghost use Rattle.cops_audit.specs.Faults.{IsFault, fault_of_number, faults_of};
-ghost use Rattle.cops_audit.specs.Verdicts.{IsVerdict};
-ghost use Rattle.cops_audit.specs.declared.verdict.Verdict.TheVariants.{Refused};
-ghost use Rattle.cops_report.specs.Chains.{IsFirstChain};
-ghost use Rattle.cops_report.specs.Puts.{HasAllPuts};
+ghost use Rattle.cops_explain.specs.Refused.{HasItsFaults, HasItsPuts, history_of};
 ghost use Rattle.cops_explain_json.specs.Objects.{members_in, with_members};
 ghost use Rattle.cops_explain_json.specs.Operations.{seen};
 ghost use Rattle.cops_explain_json.specs.Faults.{AddsShown, AreFaults, IsFaultJson, chain_members, puts_members};
@@ -14,10 +10,9 @@ ghost use Rattle.cops_explain_json.specs.Explanations.{IsOne};
 
 use crate::object::Object;
 use crate::operations::{add_operation, operation_json, operations_json};
-use cops_audit::{Fault, Faults, Stale};
-use cops_explain::{MOST_OTHERS, NamedHistory, other_puts};
-use cops_report::chain_by;
-use cops_types::{History, Memory, OpName, VersionedPut};
+use cops_audit::Fault;
+use cops_explain::{MOST_OTHERS, NamedHistory, Refused};
+use cops_types::{Memory, OpName};
 use serde_json::Value as Json;
 use std::alloc::{AllocError, Global};
 
@@ -52,42 +47,22 @@ fn add_chain(
     object.add_list("chain", list)
 }
 
-/// The report's chain of a stale get. `puts` are all puts, in order of versions.
-fn chain_of(
-    alloc: Global,
-    history: &History,
-    puts: &[VersionedPut],
-    fault: Stale,
-) -> Result<Vec<OpName>, Memory>
-    requires puts { HasAllPuts history.now.sessions puts.now }
-    requires stale { IsStale history.now.sessions fault.op fault.newer }
-    ensures { IfOk result (λ chain. IsFirstChain history.now.sessions fault.newer fault.op chain.items) }
+/// Adds the operations that show a fault, by its class.
+fn add_shown(object: &mut Object, refused: Refused<'_>, fault: Fault) -> Result<(), Memory>
+    requires puts { HasItsPuts refused }
+    requires fault { IsFault (history_of refused).sessions fault }
+    ensures { OnOk result
+        (AddsShown (history_of refused.entry) fault (members_in object.old) (members_in object.new)) }
 {
-    match chain_by(alloc, history, puts, fault.newer, fault.op)? {
-        Some(chain) => Ok(chain),
-        None => unreachable!(),
-    }
-}
-
-/// Adds the operations that show a fault, by its class. `puts` are all puts, in order of versions.
-fn add_shown(
-    alloc: Global,
-    object: &mut Object,
-    named: &NamedHistory<'_>,
-    puts: &[VersionedPut],
-    fault: Fault,
-) -> Result<(), Memory>
-    requires puts { HasAllPuts named.now.history.now.sessions puts.now }
-    requires fault { IsFault named.now.history.now.sessions fault }
-    ensures { OnOk result (AddsShown (seen named.now) fault (members_in object.old) (members_in object.new)) }
-{
+    let alloc = refused.alloc;
+    let named = &refused.named;
     match fault {
         Fault::Doubled(op) => {
-            let others = other_puts(alloc, named.history, puts, op)?;
+            let others = refused.others(op)?;
             add_puts(alloc, object, named, &others)?;
         }
         Fault::NoSource(op) => {
-            let others = other_puts(alloc, named.history, puts, op)?;
+            let others = refused.others(op)?;
             add_puts(alloc, object, named, &others)?;
         }
         Fault::NotAbove(fault) => {
@@ -95,7 +70,7 @@ fn add_shown(
             object.add("earlier", earlier)?;
         }
         Fault::Stale(fault) => {
-            let chain = chain_of(alloc, named.history, puts, fault)?;
+            let chain = refused.chain(fault)?;
             add_chain(alloc, object, named, fault.newer, &chain)?;
         }
     }
@@ -103,40 +78,29 @@ fn add_shown(
 }
 
 /// The fault of a number: the number, the operation at fault, and the operations that show the fault.
-fn fault_json(
-    alloc: Global,
-    named: &NamedHistory<'_>,
-    puts: &[VersionedPut],
-    number: usize,
-    fault: Fault,
-) -> Result<Json, Memory>
-    requires puts { HasAllPuts named.now.history.now.sessions puts.now }
-    requires fault { IsFault named.now.history.now.sessions fault }
-    ensures { IfOk result (λ json. IsFaultJson (seen named.now) number fault (view json)) }
+fn fault_json(refused: Refused<'_>, number: usize, fault: Fault) -> Result<Json, Memory>
+    requires puts { HasItsPuts refused }
+    requires fault { IsFault (history_of refused).sessions fault }
+    ensures { IfOk result (λ json. IsFaultJson (history_of refused.entry) number fault (view json)) }
 {
-    let mut object = Object::new(alloc);
+    let mut object = Object::new(refused.alloc);
     object.add_number("number", number as u64)?;
-    add_operation(alloc, &mut object, named, fault.name())?;
-    add_shown(alloc, &mut object, named, puts, fault)?;
+    add_operation(refused.alloc, &mut object, &refused.named, fault.name())?;
+    add_shown(&mut object, refused, fault)?;
     Ok(object.into_json())
 }
 
 /// The objects of the first `count` faults, or of all where there are fewer.
-pub fn faults_json(
-    alloc: Global,
-    named: &NamedHistory<'_>,
-    puts: &[VersionedPut],
-    faults: &Faults,
-    count: usize,
-) -> Result<Vec<Json>, Memory>
-    requires puts { HasAllPuts named.now.history.now.sessions puts.now }
-    requires verdict { IsVerdict named.now.history.now.sessions (Refused faults.now) }
-    ensures { IfOk result (λ list. AreFaults (seen named.now) 1 (take count (faults_of faults.now)) (map view list.items)) }
+pub fn faults_json(refused: Refused<'_>, count: usize) -> Result<Vec<Json>, Memory>
+    requires puts { HasItsPuts refused }
+    requires faults { HasItsFaults refused }
+    ensures { IfOk result (λ list. let faults = faults_of refused.entry.faults.now in
+        AreFaults (history_of refused.entry) 1 (take count faults) (map view list.items)) }
 {
-    let mut list = Vec::new(alloc);
+    let mut list = Vec::new(refused.alloc);
     for place in 0..count {
-        if let Some(fault) = faults.get(place) {
-            let json = fault_json(alloc, named, puts, place + 1, fault)?;
+        if let Some(fault) = refused.faults.get(place) {
+            let json = fault_json(refused, place + 1, fault)?;
             list.push(json)?;
         }
     }
@@ -144,20 +108,15 @@ pub fn faults_json(
 }
 
 /// The object of the fault with a number, if there is one.
-pub fn one_fault(
-    alloc: Global,
-    named: &NamedHistory<'_>,
-    puts: &[VersionedPut],
-    faults: &Faults,
-    number: u32,
-) -> Result<Vec<Json>, Memory>
-    requires puts { HasAllPuts named.now.history.now.sessions puts.now }
-    requires verdict { IsVerdict named.now.history.now.sessions (Refused faults.now) }
-    ensures { IfOk result (λ list. IsOne (seen named.now) number (fault_of_number (faults_of faults.now) number) (map view list.items)) }
+pub fn one_fault(refused: Refused<'_>, number: u32) -> Result<Vec<Json>, Memory>
+    requires puts { HasItsPuts refused }
+    requires faults { HasItsFaults refused }
+    ensures { IfOk result (λ list. let faults = faults_of refused.entry.faults.now in
+        IsOne (history_of refused.entry) number (fault_of_number faults number) (map view list.items)) }
 {
-    let mut list = Vec::new(alloc);
-    if let Some(fault) = faults.of_number(number) {
-        let json = fault_json(alloc, named, puts, number as usize, fault)?;
+    let mut list = Vec::new(refused.alloc);
+    if let Some(fault) = refused.faults.of_number(number) {
+        let json = fault_json(refused, number as usize, fault)?;
         list.push(json)?;
     }
     Ok(list)

@@ -1,4 +1,5 @@
 use Rattle.std.proofs.Common.{◌∙◌, false, true, refl, sym, arith, ◌≡◌}
+use Rattle.cops_explain.specs.Refused.{history_of}
 use Rattle.cops_explain.proofs.OtherLemmas.{all_found, found_more, found_passed, further}
 use Rattle.cops_explain.proofs.others.holders.Goals as goal
 use Rattle.cops_explain.proofs.others.holders.Goals.{then-is_other+in_ok-push, else-is_other}
@@ -8,7 +9,7 @@ false_not_true e = cc
 
 pub loop-put-preserved : goal.loop-put-preserved
 loop-put-preserved c =
-    let h = c.args.history.now.sessions in
+    let h = (history_of c.args.refused).sessions in
     let name = c.args.name in
     let puts = c.from_version-put-items.result.now in
     let i = c.loop-put.put-index in
@@ -27,7 +28,7 @@ pub returns-then-ne : goal.returns-then-ne
 returns-then-ne c =
     let puts = c.from_version-put-items.result.now in
     let v = c.version_at-version.result in
-    all_found c.args.history.now.sessions c.args.name v puts c.loop-put.put-index c.loop-put.names.items c.version_at-version.ensures c.loop-put.invariant
+    all_found (history_of c.args.refused).sessions c.args.name v puts c.loop-put.put-index c.loop-put.names.items c.version_at-version.ensures c.loop-put.invariant
     (λ n put. c.from_version-put-items.ensures.all n (c.requires.puts.all n v put))
     (further puts v c.loop-put.put-index c.put-item.result c.from_version-put-items.ensures.rising c.from_version-put-items.ensures.low c.loop-put-test.true c.put-item.is (sym c.ne.ensures ∙ c.if-ne.true))
 
@@ -35,5 +36,5 @@ pub returns : goal.returns
 returns c =
     let puts = c.from_version-put-items.result.now in
     let v = c.version_at-version.result in
-    all_found c.args.history.now.sessions c.args.name v puts c.loop-put.put-index c.loop-put.names.items c.version_at-version.ensures c.loop-put.invariant
+    all_found (history_of c.args.refused).sessions c.args.name v puts c.loop-put.put-index c.loop-put.names.items c.version_at-version.ensures c.loop-put.invariant
     (λ n put. c.from_version-put-items.ensures.all n (c.requires.puts.all n v put)) (λ k d above lt. absurd (omega (arith, c.loop-put-test.false)))

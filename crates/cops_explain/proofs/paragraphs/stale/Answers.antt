@@ -1,27 +1,9 @@
-use Rattle.std.proofs.Common.{Option, Vec, Global, refl, subst}
-use Rattle.std.specs.Prelude.{MatchOption}
-use Rattle.cops_types.specs.declared.op.OpName.{OpName}
-use Rattle.cops_report.specs.Chains.{HasNoChain, IsFirstChain}
-use Rattle.cops_report.proofs.ChainLemmas.{past_chain}
+use Rattle.std.proofs.Common.{refl}
 use Rattle.cops_explain.specs.Refused.{history_of}
 use Rattle.cops_explain.specs.Paragraphs.{stale_text}
 use Rattle.cops_explain.proofs.paragraphs.stale.Goals as goal
 
-pub unreachable-requires : goal.unreachable-requires
-unreachable-requires c =
-    let h = (history_of c.args.refused).sessions in
-    let newer = c.args.fault.newer in
-    let op = c.args.fault.op in
-    let names = past_chain h newer op c.requires.stale.is_newer.past in
-    let Found : Option (Vec OpName Global) → Type 0 = λ o. MatchOption o (HasNoChain h newer op) (λ v. IsFirstChain h newer op v.items) in
-    let none : HasNoChain h newer op = subst Found c.in-None.is c.in_ok-found.ensures in
-    none names.0 names.1
-
 pub returns : goal.returns
 returns c =
-    let h = history_of c.args.refused in
-    let newer = c.args.fault.newer in
-    let op = c.args.fault.op in
-    let Found : Option (Vec OpName Global) → Type 0 = λ o. MatchOption o (HasNoChain h.sessions newer op) (λ v. IsFirstChain h.sessions newer op v.items) in
-    let chain : IsFirstChain h.sessions newer op c.in-Some.chain.items = subst Found c.in-Some.is c.in_ok-found.ensures in
-    (stale_text h c.args.fault c.in-Some.chain.items, (c.in-Some.chain.items, chain, refl), rw c.deref.ensures.value at c.in_ok-push_stale-in-Some.ensures)
+    let chain = c.in_ok-chain.chain.items in
+    (stale_text (history_of c.args.refused) c.args.fault chain, (chain, c.in_ok-chain.ensures, refl), rw c.deref.ensures.value at c.in_ok-push_stale.ensures)
