@@ -576,8 +576,8 @@ for tests in (
     examples, deletions, limits, conversions, long_chain, many_rounds, faults, cut_traces, shown, scenarios, refusals, faulty_scenarios, replaced,
     over_inputs, lines_in_place_of_a_trace, scripts, mixed_scripts, working_clusters, plain_cluster.random_worlds, many_workers, served, served_deletions,
     replies, strange_peers, sent_behind, idle_clients, listens_here_alone, words, devices, on_a_terminal, generated, long_traces, each_kind, many_suspects,
-    little_memory, no_thread, imports, checks, ranks, pictures, redis, definition_files, mutations, plain.rows, plain.random_histories, plain.random_cuts,
-    plain.cuts_of_deletions, plain_reader.changed_bytes,
+    little_memory, no_thread, imports, checks, ranks, outcomes, pictures, redis, definition_files, mutations, plain.rows, plain.random_histories,
+    plain.random_cuts, plain.cuts_of_deletions, plain_reader.changed_bytes,
 ):
     tests()
 sys.exit(ended())

@@ -2,11 +2,16 @@
 import json
 import os
 import shutil
+import socket
 import subprocess
 import sys
 import tempfile
+import threading
 
 from traces import ROOT, check, cops, skip
+
+sys.path.insert(0, os.path.join(ROOT, "examples", "redis"))
+import record  # noqa: E402
 
 RUN = os.path.join(ROOT, "examples", "redis", "run.py")
 
@@ -28,8 +33,34 @@ def lines_by(path, client, key):
     return [number for number, of in enumerate(made, 1) if of["client"] == client and key in (of.get("put"), of.get("get"))]
 
 
+def no_reply():
+    """A put whose connection ends before the reply is recorded as one of unknown outcome."""
+    with socket.create_server(("127.0.0.1", 0)) as server:
+        def end_both():
+            for _ in range(2):
+                connection, _ = server.accept()
+                connection.close()
+
+        thread = threading.Thread(target=end_both)
+        thread.start()
+        recorder, port = record.Recorder(), server.getsockname()[1]
+        client = record.Client("ann", recorder, port, port)
+        try:
+            client.put("x", "1")
+            raised = False
+        except OSError:
+            raised = True
+        thread.join()
+        client.close()
+    lines = b'{"client": "ann", "put": "x", "value": "1", "ok": null}\n'
+    check("a put without a reply", (raised, recorder.text().encode()), (True, lines))
+    answer = b"accepted: 0 operations, 0 puts\nunknown outcomes: 0 took effect, 1 left out\n"
+    check("a put without a reply: checked", cops("check", "-", stdin=lines), (0, answer, b""))
+
+
 def redis():
     """If all gets are at the primary, what the clients saw is accepted; a get from a replica that lags is stale."""
+    no_reply()
     if not shutil.which("redis-server"):
         skip("clients of Redis", "redis-server is not installed")
         return

@@ -88,8 +88,14 @@ class Client:
         self.replica = Connection(replica)
 
     def put(self, key, value):
-        version = self.primary.call("EVAL", PUT, 2, CLOCK, f"key:{key}", value)
-        self.recorder.add({"client": self.name, "put": key, "value": value, "version": version})
+        put = {"client": self.name, "put": key, "value": value}
+        try:
+            version = self.primary.call("EVAL", PUT, 2, CLOCK, f"key:{key}", value)
+        except OSError:
+            # There was no reply in time, or the connection has ended: the put may have been stored or not.
+            self.recorder.add({**put, "ok": None})
+            raise
+        self.recorder.add({**put, "version": version})
 
     def get(self, key, at_replica=False):
         server = self.replica if at_replica else self.primary

@@ -18,21 +18,20 @@ fn read(alloc: Global, bytes: &[u8]) -> Result<Option<Trace>, Memory> {
     }
 }
 
-/// Whether a judge with two workers gives the expected report.
-fn two_say<R: Threads + Wait + Sync>(
+/// The report of a judge with two workers, or nothing if it gives no verdict for another reason than memory.
+fn report_of_two<R: Threads + Wait + Sync>(
     rt: &R,
     alloc: Global,
     history: &History,
-    wanted: &[u8],
-) -> Result<bool, Memory> {
+) -> Result<Option<Vec<u8>>, Memory> {
     match judge_with(rt, alloc, history, 2, &OpenGate) {
         Ok(verdict) => {
             let text = report(alloc, history, &verdict);
             drop(verdict);
-            Ok(text?.as_slice() == wanted)
+            Ok(Some(text?))
         }
         Err(BatchFault::Memory) => Err(Memory),
-        Err(_) => Ok(false),
+        Err(_) => Ok(None),
     }
 }
 
@@ -94,11 +93,11 @@ fn fed_report(alloc: Global, history: &History) -> Result<Option<Vec<u8>>, Memor
     }
 }
 
-/// Whether an online auditor gives the expected report.
-fn fed_says(alloc: Global, history: &History, wanted: &[u8]) -> Result<bool, Memory> {
-    match fed_report(alloc, history)? {
-        Some(text) => Ok(text.as_slice() == wanted),
-        None => Ok(false),
+/// Whether there is a report, and it is the expected one.
+fn is_wanted(report: Option<Vec<u8>>, wanted: &[u8]) -> bool {
+    match report {
+        Some(text) => text.as_slice() == wanted,
+        None => false,
     }
 }
 
@@ -111,8 +110,8 @@ fn all_say<R: Threads + Wait + Sync>(
 ) -> Result<bool, Memory> {
     Ok(
         report_of(alloc, history)?.as_slice() == wanted
-            && two_say(rt, alloc, history, wanted)?
-            && fed_says(alloc, history, wanted)?,
+            && is_wanted(report_of_two(rt, alloc, history)?, wanted)
+            && is_wanted(fed_report(alloc, history)?, wanted),
     )
 }
 

@@ -28,62 +28,63 @@ fn value(alloc: Global) -> Result<Value, Memory> {
     Value::new(alloc, b"a value of more bytes than lie in it").or(Err(Memory))
 }
 
-/// Puts if `puts` holds, and gets otherwise.
-fn step<R: Wait>(
-    rt: &R,
-    alloc: Global,
-    cluster: &Cluster,
-    client: &mut Client,
-    puts: bool,
-) -> Result<Option<Outcome>, Memory> {
-    let answer = if puts {
-        cluster.put(rt, client, &OpenGate, key(alloc)?, value(alloc)?)
-    } else {
-        cluster.get(rt, client, &OpenGate, key(alloc)?)
-    };
-    Ok(answer.ok())
-}
-
-/// The answer to a put or a get. One that is refused because memory ran out, and has no entry, is tried again.
-fn surely<R: Wait>(
-    rt: &R,
-    alloc: Global,
-    cluster: &Cluster,
-    client: &mut Client,
-    puts: bool,
-) -> Result<Option<Outcome>, Memory> {
-    let before = client.share().entries().len();
-    let answer = step(rt, alloc, cluster, client, puts)?;
-    let is_refused = answer == Some(Outcome::Refused(Refusal::Memory));
-    if !is_refused || client.share().entries().len() != before {
-        return Ok(answer);
-    }
-    drop(answer);
-    step(rt, alloc, cluster, client, puts)
-}
-
 /// Whether the value was got, at this version.
 fn is_got(alloc: Global, answer: &Option<Outcome>, version: Version) -> Result<bool, Memory> {
     Ok(*answer == Some(Outcome::Got(value(alloc)?, version)))
 }
 
-/// Whether a client gets what it put, and each of the two operations has its entry.
-fn gets_what_it_put<R: Wait>(
-    rt: &R,
+/// A client, its cluster, and the allocator for what it passes.
+#[derive(Drop)]
+struct Caller {
     alloc: Global,
-    cluster: &Cluster,
-    client: &mut Client,
-) -> Result<bool, Memory> {
-    let Ok(version) = Version::new(1, 0) else {
-        return Ok(false);
-    };
-    let put = surely(rt, alloc, cluster, client, true)?;
-    let has_put = put == Some(Outcome::PutDone(version));
-    drop(put);
-    let got = surely(rt, alloc, cluster, client, false)?;
-    let has_got = is_got(alloc, &got, version);
-    drop(got);
-    Ok(has_put && has_got? && client.share().entries().len() == 2)
+    cluster: Cluster,
+    client: Client,
+}
+
+impl Caller {
+    /// Puts if `puts` holds, and gets otherwise.
+    fn step<R: Wait>(&mut self, rt: &R, puts: bool) -> Result<Option<Outcome>, Memory> {
+        let key = key(self.alloc)?;
+        let answer = if puts {
+            let value = value(self.alloc)?;
+            self.cluster
+                .put(rt, &mut self.client, &OpenGate, key, value)
+        } else {
+            self.cluster.get(rt, &mut self.client, &OpenGate, key)
+        };
+        Ok(answer.ok())
+    }
+
+    /// How many entries the client has.
+    fn entries(&mut self) -> usize {
+        self.client.share().entries().len()
+    }
+
+    /// The answer to a put or a get. One that is refused because memory ran out, and has no entry, is tried again.
+    fn surely<R: Wait>(&mut self, rt: &R, puts: bool) -> Result<Option<Outcome>, Memory> {
+        let before = self.entries();
+        let answer = self.step(rt, puts)?;
+        let is_refused = answer == Some(Outcome::Refused(Refusal::Memory));
+        if !is_refused || self.entries() != before {
+            return Ok(answer);
+        }
+        drop(answer);
+        self.step(rt, puts)
+    }
+
+    /// Whether the client gets what it put, and each of the two operations has its entry.
+    fn gets_what_it_put<R: Wait>(&mut self, rt: &R) -> Result<bool, Memory> {
+        let Ok(version) = Version::new(1, 0) else {
+            return Ok(false);
+        };
+        let put = self.surely(rt, true)?;
+        let has_put = put == Some(Outcome::PutDone(version));
+        drop(put);
+        let got = self.surely(rt, false)?;
+        let has_got = is_got(self.alloc, &got, version);
+        drop(got);
+        Ok(has_put && has_got? && self.entries() == 2)
+    }
 }
 
 /// The remains of a closed cluster. Closing is tried again if memory runs out.
@@ -108,24 +109,22 @@ fn are_reported(cluster: Cluster, shares: Vec<Share>, operations: usize) -> bool
 }
 
 /// Whether the trace has two operations, once the client's share is added to the others.
-fn is_reported(cluster: Cluster, client: Client, mut shares: Vec<Share>) -> Result<bool, Memory> {
+fn is_reported(caller: Caller, mut shares: Vec<Share>) -> Result<bool, Memory> {
+    let Caller {
+        cluster,
+        client,
+        ..
+    } = caller;
     shares.push(client.into_share())?;
     Ok(are_reported(cluster, shares, 2))
 }
 
 /// Whether a client gets what it put, and both operations are in the trace in the end.
-fn is_answered<R: Wait>(
-    rt: &R,
-    alloc: Global,
-    cluster: Cluster,
-    mut client: Client,
-    shares: Vec<Share>,
-) -> Result<bool, Memory> {
-    match gets_what_it_put(rt, alloc, &cluster, &mut client) {
-        Ok(true) => is_reported(cluster, client, shares),
+fn is_answered<R: Wait>(rt: &R, mut caller: Caller, shares: Vec<Share>) -> Result<bool, Memory> {
+    match caller.gets_what_it_put(rt) {
+        Ok(true) => is_reported(caller, shares),
         answer => {
-            drop(cluster);
-            drop(client);
+            drop(caller);
             drop(shares);
             answer
         }
@@ -142,7 +141,14 @@ fn is_reported_in<R: Wait>(rt: &R, alloc: Global, opened: Opened) -> Result<bool
     let last = clients.pop();
     drop(clients);
     match last {
-        Some(client) => is_answered(rt, alloc, cluster, client, shares),
+        Some(client) => {
+            let caller = Caller {
+                alloc,
+                cluster,
+                client,
+            };
+            is_answered(rt, caller, shares)
+        }
         None => {
             drop(cluster);
             drop(shares);

@@ -25,6 +25,12 @@ use std::alloc::Global;
 use std::fs;
 use std::rt::Files;
 
+/// Replaces a subject by a new one.
+fn renewed<T: Drop>(subject: &mut T, new: T) -> &mut T {
+    drop(std::mem::replace(subject, new));
+    subject
+}
+
 /// The answer to a case's call, or the text of its error.
 fn reported(alloc: Global, subjects: &mut Subjects, call: &str) -> Result<String, Error> {
     let words: Vec<&str> = call.split(' ').collect(alloc)?;

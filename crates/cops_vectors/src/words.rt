@@ -15,6 +15,6 @@ pub use reading::{
     deps, format_of, key, keys, mark, no_row, node_of, op, pair, parts, put, u8_of, u16_of, u32_of,
     u64_of, usize_of, value, version, version_of,
 };
-pub use reporting::{found_text, op_text, pair_text, session_text, yes_or_no};
-pub use texts::{Part, add_behind, line_of, lossy, text, word};
+pub use reporting::{op_text, pair_text, session_text, shown_text, yes_or_no};
+pub use texts::{Part, add_behind, joined, line_of, lossy, text, word};
 pub use worlds::world_event;

@@ -1,7 +1,7 @@
 //! Test cases of a client's context.
 
 use crate::words::Part::{Count, Word};
-use crate::words::{add_behind, format_of, key, no_row, pair, pair_text, text, u64_of, yes_or_no};
+use crate::words::{format_of, joined, key, no_row, pair, pair_text, text, u64_of, yes_or_no};
 use anyhow::Error;
 use cops_context::Context;
 use cops_types::{Dep, Version};
@@ -18,19 +18,10 @@ fn counts(alloc: Global, context: &Context) -> Result<String, Error> {
     text(alloc, &[pairs, Word(room)])
 }
 
-/// Pairs in their order, `KEY@VERSION KEY@VERSION..`.
-fn pairs_text(alloc: Global, pairs: &[Dep]) -> Result<String, Error> {
-    let mut text = String::new(alloc);
-    for pair in pairs {
-        let one = pair_text(alloc, pair)?;
-        add_behind(&mut text, " ", &one)?;
-    }
-    Ok(text)
-}
-
+/// The context's pairs in their order, `KEY@VERSION KEY@VERSION..`.
 fn deps(alloc: Global, context: &Context) -> Result<String, Error> {
     let deps = context.deps()?;
-    let reported = pairs_text(alloc, deps.as_slice());
+    let reported = joined(alloc, deps.as_slice(), " ", pair_text);
     drop(deps);
     reported
 }

@@ -2,7 +2,7 @@
 
 use crate::words::Part::{Number, Word};
 use crate::words::{
-    found_text, key, mark, node_event, node_of, pair_text, reported_outcome, text, word,
+    key, mark, node_event, node_of, pair_text, reported_outcome, shown_text, text, word,
 };
 use anyhow::Error;
 use cops_node::{Node, NodeEvent, Outcome};
@@ -69,10 +69,7 @@ fn status(alloc: Global, node: &Node) -> Result<String, Error> {
 
 fn shown(alloc: Global, node: &Node, name: &str) -> Result<String, Error> {
     let key = key(alloc, name)?;
-    let reported = match node.shown(&key) {
-        Some((value, version)) => found_text(alloc, value, version),
-        None => word(alloc, "nothing"),
-    };
+    let reported = shown_text(alloc, &node.shown(&key));
     drop(key);
     reported
 }

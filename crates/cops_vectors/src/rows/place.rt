@@ -54,19 +54,6 @@ fn copy_node(alloc: Global, place: &Place, dc: &str, name: &str) -> Result<Strin
     reported
 }
 
-/// Replaces the place by a new one.
-fn begin(
-    alloc: Global,
-    place: &mut Option<Place>,
-    dcs: &str,
-    splits: &str,
-) -> Result<String, Error> {
-    let opened = open(alloc, dcs, splits)?;
-    let reported = counts(alloc, &opened);
-    drop(place.replace(opened));
-    reported
-}
-
 /// The answer to a call on the current place.
 fn ask_any(alloc: Global, place: &Place, words: &[&str]) -> Result<String, Error> {
     match words {
@@ -80,7 +67,7 @@ fn ask_any(alloc: Global, place: &Place, words: &[&str]) -> Result<String, Error
 /// The answer to a call.
 pub fn answer(alloc: Global, place: &mut Option<Place>, words: &[&str]) -> Result<String, Error> {
     if let ["new", dcs, splits] = words {
-        return begin(alloc, place, dcs, splits);
+        return counts(alloc, place.insert(open(alloc, dcs, splits)?));
     }
     match place {
         Some(place) => ask_any(alloc, place, words),

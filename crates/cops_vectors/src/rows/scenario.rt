@@ -27,12 +27,9 @@ fn counts(alloc: Global, scenario: &Scenario) -> Result<String, Error> {
     text(alloc, &parts)
 }
 
-/// Replaces the scenario by the one in a text.
-fn begin(alloc: Global, scenario: &mut Option<Scenario>, text: &str) -> Result<String, Error> {
-    let read = Scenario::from_json(alloc, text.as_bytes())?;
-    let reported = counts(alloc, &read);
-    drop(scenario.replace(read));
-    reported
+/// The scenario in a text.
+fn read(alloc: Global, text: &str) -> Result<Scenario, Error> {
+    Ok(Scenario::from_json(alloc, text.as_bytes())?)
 }
 
 /// Where a client lives, and how long its script is.
@@ -176,7 +173,7 @@ fn line(alloc: Global, number: &str, words: &[&str]) -> Result<String, Error> {
 }
 
 /// The answer to a call on the current scenario.
-fn ask_any(alloc: Global, scenario: &Scenario, words: &[&str]) -> Result<String, Error> {
+fn ask(alloc: Global, scenario: &Scenario, words: &[&str]) -> Result<String, Error> {
     let number = match words {
         ["client", number] => return client(alloc, scenario, number),
         ["script", number, index] => return script(alloc, scenario, number, index),
@@ -191,20 +188,23 @@ fn ask_any(alloc: Global, scenario: &Scenario, words: &[&str]) -> Result<String,
     text(alloc, &[Number(number)])
 }
 
+/// The answer to a call on the current scenario, or the error that there is none.
+fn ask_any(alloc: Global, scenario: &Option<Scenario>, words: &[&str]) -> Result<String, Error> {
+    match scenario {
+        Some(scenario) => ask(alloc, scenario, words),
+        None => bail!("there is no scenario"),
+    }
+}
+
 /// The answer to a call.
 pub fn answer(
     alloc: Global,
     scenario: &mut Option<Scenario>,
     words: &[&str],
 ) -> Result<String, Error> {
-    if let ["new", text] = words {
-        return begin(alloc, scenario, text);
-    }
-    if let ["line", number, outcome @ ..] = words {
-        return line(alloc, number, outcome);
-    }
-    match scenario {
-        Some(scenario) => ask_any(alloc, scenario, words),
-        None => bail!("there is no scenario"),
+    match words {
+        ["new", text] => counts(alloc, scenario.insert(read(alloc, text)?)),
+        ["line", number, outcome @ ..] => line(alloc, number, outcome),
+        _ => ask_any(alloc, scenario, words),
     }
 }

@@ -1,7 +1,8 @@
 //! Test cases of a node's settled puts.
 
+use crate::rows::renewed;
 use crate::words::Part::{Count, Word};
-use crate::words::{found_text, key, no_row, pair, text, value, version, word, yes_or_no};
+use crate::words::{key, no_row, pair, shown_text, text, value, version, word, yes_or_no};
 use anyhow::Error;
 use cops_store::{Settled, Store};
 use cops_types::Dep;
@@ -46,10 +47,7 @@ fn has(alloc: Global, store: &Store, words: &[&str]) -> Result<String, Error> {
 
 fn get(alloc: Global, store: &Store, name: &str) -> Result<String, Error> {
     let key = key(alloc, name)?;
-    let reported = match store.get(&key) {
-        Some((value, version)) => found_text(alloc, value, version),
-        None => word(alloc, "nothing"),
-    };
+    let reported = shown_text(alloc, &store.get(&key));
     drop(key);
     reported
 }
@@ -57,10 +55,7 @@ fn get(alloc: Global, store: &Store, name: &str) -> Result<String, Error> {
 /// The answer to a call.
 pub fn answer(alloc: Global, store: &mut Store, words: &[&str]) -> Result<String, Error> {
     match words {
-        ["new"] => {
-            drop(std::mem::replace(store, Store::new(alloc)));
-            counts(alloc, store)
-        }
+        ["new"] => counts(alloc, renewed(store, Store::new(alloc))),
         ["counts"] => counts(alloc, store),
         ["settle", rest @ ..] => settle(alloc, store, rest),
         ["has", rest @ ..] => has(alloc, store, rest),

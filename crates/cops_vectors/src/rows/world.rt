@@ -3,8 +3,8 @@
 use crate::rows::place;
 use crate::words::Part::{Count, Word};
 use crate::words::{
-    add_behind, format_of, outcome_text, parts, reported_outcome, session_text, text, u8_of,
-    u32_of, world_event,
+    format_of, joined, outcome_text, parts, reported_outcome, session_text, text, u8_of, u32_of,
+    world_event,
 };
 use anyhow::{Error, bail};
 use cops_core::{Event, World};
@@ -87,22 +87,13 @@ fn events(alloc: Global, words: &[&str]) -> Result<Vec<Event>, Error> {
     Ok(events)
 }
 
-/// The words of outcomes, separated by `/`.
-fn outcomes_text(alloc: Global, outcomes: &[Outcome]) -> Result<String, Error> {
-    let mut text = String::new(alloc);
-    for outcome in outcomes {
-        let one = outcome_text(alloc, outcome)?;
-        add_behind(&mut text, " / ", &one)?;
-    }
-    Ok(text)
-}
-
+/// Applies events, and returns the words of their outcomes, separated by `/`.
 fn run(alloc: Global, world: &mut World, words: &[&str]) -> Result<String, Error> {
     let events = events(alloc, words)?;
     let outcomes = world.run(&events);
     drop(events);
     let outcomes = outcomes?;
-    let reported = outcomes_text(alloc, &outcomes);
+    let reported = joined(alloc, &outcomes, " / ", outcome_text);
     drop(outcomes);
     reported
 }

@@ -2,9 +2,12 @@
 //! `deliver KEY VALUE VERSION DEPS`, which has no value for a deletion, `ask KEY VERSION`, `mark VERSION DEP`,
 //! `settle VERSION`.
 
-use crate::words::reading::{deps, key, no_row, put, u16_of, value, version};
+use crate::words::reading::{
+    client_key, deps, key, mark, no_row, pair, put, u16_of, value, version,
+};
 use anyhow::Error;
 use cops_node::NodeEvent;
+use cops_types::Dep;
 use std::alloc::Global;
 
 /// The event of a node that words describe.
@@ -21,19 +24,19 @@ pub fn node_event(alloc: Global, words: &[&str]) -> Result<NodeEvent, Error> {
             deps: deps(alloc, pairs)?,
             key: key(alloc, name)?,
         }),
-        ["get", client, name] => Ok(NodeEvent::Get {
-            client: u16_of(client)?,
-            key: key(alloc, name)?,
-        }),
+        ["get", rest @ ..] => {
+            let (client, key) = client_key(alloc, rest)?;
+            Ok(NodeEvent::Get { client, key })
+        }
         ["deliver", rest @ ..] => Ok(NodeEvent::Deliver(put(alloc, rest)?)),
-        ["ask", name, at] => Ok(NodeEvent::Ask {
-            version: version(at)?,
-            key: key(alloc, name)?,
-        }),
-        ["mark", at, dep] => Ok(NodeEvent::Mark {
-            version: version(at)?,
-            dep: u16_of(dep)?,
-        }),
+        ["ask", rest @ ..] => {
+            let Dep { key, version } = pair(alloc, rest)?;
+            Ok(NodeEvent::Ask { key, version })
+        }
+        ["mark", rest @ ..] => {
+            let (version, dep) = mark(rest)?;
+            Ok(NodeEvent::Mark { version, dep })
+        }
         ["settle", at] => Ok(NodeEvent::Settle {
             version: version(at)?,
         }),

@@ -112,6 +112,16 @@ pub fn pair(alloc: Global, words: &[&str]) -> Result<Dep, Error> {
     Ok(Dep { key, version })
 }
 
+/// A client and a key: `CLIENT KEY`.
+pub fn client_key(alloc: Global, words: &[&str]) -> Result<(u16, Key), Error> {
+    let [client, name] = words else {
+        return Err(no_row());
+    };
+    let client = u16_of(client)?;
+    let key = key(alloc, name)?;
+    Ok((client, key))
+}
+
 /// The pair `KEY@VERSION`.
 fn reported_pair(alloc: Global, word: &str) -> Result<Dep, Error> {
     match word.split_once('@') {

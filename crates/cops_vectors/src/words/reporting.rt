@@ -14,12 +14,23 @@ pub fn yes_or_no(alloc: Global, is: bool) -> Result<String, Error> {
 }
 
 /// What was found for a key: `VALUE at VERSION` or `deleted at VERSION`.
-pub fn found_text(alloc: Global, value: Option<&Value>, version: Version) -> Result<String, Error> {
+fn found_text(alloc: Global, value: Option<&Value>, version: Version) -> Result<String, Error> {
     let value = match value {
         Some(value) => Bytes(value.as_bytes()),
         None => Word("deleted"),
     };
     text(alloc, &[value, Word(" at "), At(version)])
+}
+
+/// What a key shows: what was found for it, or `nothing`.
+pub fn shown_text(
+    alloc: Global,
+    shown: &Option<(Option<&Value>, Version)>,
+) -> Result<String, Error> {
+    match shown {
+        Some((value, version)) => found_text(alloc, *value, *version),
+        None => word(alloc, "nothing"),
+    }
 }
 
 /// `KEY@VERSION`.

@@ -61,6 +61,23 @@ pub fn add_behind(text: &mut String, sign: &str, part: &str) -> Result<(), Error
     Ok(text.push_str(part)?)
 }
 
+/// The texts of items, with a separator between them.
+pub fn joined<T, F: Fn(Global, &T) -> Result<String, Error>>(
+    alloc: Global,
+    items: &[T],
+    sign: &str,
+    text_of: F,
+) -> Result<String, Error>
+    requires { F.IsAlwaysCallable text_of }
+{
+    let mut text = String::new(alloc);
+    for item in items {
+        let one = text_of(alloc, item)?;
+        add_behind(&mut text, sign, &one)?;
+    }
+    Ok(text)
+}
+
 /// The text of one word.
 pub fn word(alloc: Global, word: &str) -> Result<String, Error> {
     Ok(String::from_str(alloc, word)?)
