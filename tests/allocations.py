@@ -60,6 +60,8 @@ def cases():
     with open(data("stale.explained"), "rb") as file:
         explained = file.read()
     imported = b"client 0 writer\nclient 1 reader\nimported: 2 operations, 2 clients\n"
+    unknown = b"unknown outcomes: 1 took effect, 1 left out\n"
+    timed_out = b"client 0 ann\nclient 1 bob\nclient 2 ann, line 2\nimported: 3 operations, 3 clients\n" + unknown
     ran = b"client 0 done\nclient 1 done\naccepted: 4 operations, 2 puts\n"
     return [
         Case("test vectors", puts, (0, b"as wanted\n"), (1,)),
@@ -72,6 +74,8 @@ def cases():
         Case("check, as JSON", [program, "check", example("stale.jsonl"), "--json"], (1, json_line(STALE_JSON))),
         Case("import", [program, "import", example("put_and_get.jsonl"), os.devnull], (0, imported)),
         Case("import to format 2", [program, "import", "--format", "2", example("put_and_get.jsonl"), os.devnull], (0, imported)),
+        Case("import of unknown outcomes", [program, "import", example("timed_out.jsonl"), os.devnull], (0, timed_out)),
+        Case("check of unknown outcomes", [program, "check", example("timed_out.jsonl")], (0, b"accepted: 3 operations, 2 puts\n" + unknown)),
         # Standard input has no lines.
         Case("import of standard input", [program, "import", "-", os.devnull], (0, b"imported: 0 operations, 0 clients\n")),
         # An operation is tried once more, so that both clients are done whichever of their allocations fails.

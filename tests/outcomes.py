@@ -74,9 +74,21 @@ def which_take_effect():
         ("another value was got", lines_of(asked("ann", "x", "1"), got("bob", "x", "2", 3)), 0, 1, b"refused: 1 operations, 0 puts, 1 fault\n"),
         ("another key was got", lines_of(asked("ann", "x", "1"), got("bob", "y", "1", 3)), 0, 1, b"refused: 1 operations, 0 puts, 1 fault\n"),
         ("a put has the version", lines_of(asked("ann", "x", "1"), got("bob", "x", "1", 3), put("bob", "x", "1", 3)), 0, 1, None),
-        ("a later put has the version", lines_of(put("bob", "x", "1", 3), got("bob", "x", "1", 3), asked("ann", "x", "1")), 0, 1, b"accepted: 2 operations, 1 puts\n"),
+        (
+            "a later put has the version",
+            lines_of(put("bob", "x", "1", 3), got("bob", "x", "1", 3), asked("ann", "x", "1")),
+            0,
+            1,
+            b"accepted: 2 operations, 1 puts\n",
+        ),
         ("a put of another key has the version", lines_of(asked("ann", "x", "1"), got("bob", "x", "1", 3), put("eve", "y", "1", 3)), 0, 1, None),
-        ("two that write alike, one got", lines_of(asked("ann", "x", "1"), asked("bob", "x", "1"), got("eve", "x", "1", 3)), 1, 1, b"accepted: 2 operations, 1 puts\n"),
+        (
+            "two that write alike, one got",
+            lines_of(asked("ann", "x", "1"), asked("bob", "x", "1"), got("eve", "x", "1", 3)),
+            1,
+            1,
+            b"accepted: 2 operations, 1 puts\n",
+        ),
         (
             "two that write alike, both got",
             lines_of(asked("ann", "x", "1"), asked("bob", "x", "1"), got("eve", "x", "1", 3), got("eve", "x", "1", 4)),
@@ -139,10 +151,24 @@ def wrong_lines():
 def how_it_is_written():
     """Members that are no `ok`, and other spellings of it."""
     one = b'{"client":"ann","put":"x","value":"1",%s}\n' + lines_of(got("bob", "x", "1", 3))
-    for member in (b'"ok":null', b'"ok" : null', b'"\\u006fk":null', b'"ok":true,"ok":null', b'"version":null,"ok":null', b'"note":"\\"ok\\"","ok":null'):
+    for member in (
+        b'"ok":null',
+        b'"ok" : null',
+        b'"\\u006fk":null',
+        b'"ok":true,"ok":null',
+        b'"version":null,"ok":null',
+        b'"note":"\\"ok\\"","ok":null',
+    ):
         wanted = b"accepted: 2 operations, 1 puts\nunknown outcomes: 1 took effect, 0 left out\n"
         check(f"a put with {member}", cops("check", "-", stdin=one % member), (0, wanted, b""))
-    for member in (b'"version":3', b'"version":3,"ok":true', b'"version":3,"ok":false', b'"version":3,"ok":"null"', b'"ok":null,"ok":0,"version":3', b'"version":3,"note":"ok"'):
+    for member in (
+        b'"version":3',
+        b'"version":3,"ok":true',
+        b'"version":3,"ok":false',
+        b'"version":3,"ok":"null"',
+        b'"ok":null,"ok":0,"version":3',
+        b'"version":3,"note":"ok"',
+    ):
         check(f"a put with {member}", cops("check", "-", stdin=one % member), (0, b"accepted: 2 operations, 1 puts\n", b""))
     asked_only = lines_of(asked("a b", "x", "1"), asked("eve", "x", "2"), got("bob", "x", "1", 3))
     report = b"client 0 bob\nclient 1 a%20b, line 1\nimported: 2 operations, 2 clients\nunknown outcomes: 1 took effect, 1 left out\n"

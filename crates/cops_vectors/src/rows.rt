@@ -26,7 +26,7 @@ use std::fs;
 use std::rt::Files;
 
 /// Replaces a subject by a new one.
-fn renewed<T: Drop>(subject: &mut T, new: T) -> &mut T {
+fn replaced<T: Drop>(subject: &mut T, new: T) -> &mut T {
     drop(std::mem::replace(subject, new));
     subject
 }

@@ -1,6 +1,6 @@
 //! Test cases of the puts that wait at a node.
 
-use crate::rows::renewed;
+use crate::rows::replaced;
 use crate::words::Part::{At, Bytes, Count, Number, Word};
 use crate::words::{mark, no_row, put, text, version, word, yes_or_no};
 use anyhow::Error;
@@ -75,7 +75,7 @@ fn take(alloc: Global, held: &mut Held, at: &str) -> Result<String, Error> {
 /// The answer to a call.
 pub fn answer(alloc: Global, held: &mut Held, words: &[&str]) -> Result<String, Error> {
     match words {
-        ["new"] => counts(alloc, renewed(held, Held::new(alloc))),
+        ["new"] => counts(alloc, replaced(held, Held::new(alloc))),
         ["counts"] => counts(alloc, held),
         ["hold", rest @ ..] => hold(alloc, held, rest),
         ["open", at] => open(alloc, held, at),

@@ -1,6 +1,6 @@
 //! Test cases of a node's settled puts.
 
-use crate::rows::renewed;
+use crate::rows::replaced;
 use crate::words::Part::{Count, Word};
 use crate::words::{key, no_row, pair, shown_text, text, value, version, word, yes_or_no};
 use anyhow::Error;
@@ -55,7 +55,7 @@ fn get(alloc: Global, store: &Store, name: &str) -> Result<String, Error> {
 /// The answer to a call.
 pub fn answer(alloc: Global, store: &mut Store, words: &[&str]) -> Result<String, Error> {
     match words {
-        ["new"] => counts(alloc, renewed(store, Store::new(alloc))),
+        ["new"] => counts(alloc, replaced(store, Store::new(alloc))),
         ["counts"] => counts(alloc, store),
         ["settle", rest @ ..] => settle(alloc, store, rest),
         ["has", rest @ ..] => has(alloc, store, rest),
