@@ -27,7 +27,8 @@ use cops_check::{CheckFault, check_stream};
 use cops_command::{Status, print};
 use cops_command_line::Job;
 use cops_import::{
-    Expected, ImportFault, Imported, JsonLineFault, Rules, Surveyed, Unimported, faulty_line, import_stream,
+    Expected, ImportFault, Imported, JsonLineFault, Rules, Surveyed, Unimported, faulty_line,
+    import_stream,
 };
 use cops_run_command::{Streamed, run_stream};
 use cops_serve::serve_stream;
