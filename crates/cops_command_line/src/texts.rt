@@ -4,7 +4,7 @@
 pub type Text = &'static str;
 
 /// The version of the program, and the Rattle toolchain and its logic with which it is proved and built.
-pub const VERSION: &str = "0.1.0 (rattle-kit-13b, logic dac8208d650f15bf)";
+pub const VERSION: &str = "0.1.0 (rattle-kit-13f, logic dac8208d650f15bf)";
 
 /// What the help says of a command: in one line, and at length.
 #[derive(Clone, Copy, Debug)]
