@@ -21,7 +21,7 @@ numbers_after table [] numbers = table
 numbers_after table (client ∷ clients) [] = table
 numbers_after table (client ∷ clients) (number ∷ numbers) = numbers_after (with_number table client number) clients numbers
 
--- for each of so many clients the numbers of the lines of its operations, which arrived in this order
+-- for each client the numbers of the lines of its operations, which arrived in this order
 abbrev pub op_lines : ℕ → List ℕ → List ℕ → List (List ℕ)
 op_lines clients arrivals numbers = numbers_after (replicate clients []) arrivals numbers
 

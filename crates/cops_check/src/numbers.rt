@@ -78,7 +78,7 @@ pub(crate) fn trace_lines(
     Ok(all)
 }
 
-/// An empty list for each of so many clients.
+/// An empty list for each client.
 fn no_numbers(alloc: Global, clients: u16) -> Result<Vec<Vec<u64>>, AllocError>
     ensures { IfOk result (λ table. map (λ numbers. numbers.items) table.items ≡ replicate clients []) }
 {
@@ -100,7 +100,7 @@ fn add_number(table: &mut Vec<Vec<u64>>, client: u16, number: u64) -> Result<(),
     Ok(())
 }
 
-/// For each of so many clients the numbers of the lines of its operations: `arrivals` has the clients of operations in
+/// For each of `clients` clients the numbers of the lines of its operations: `arrivals` has the clients of operations in
 /// the order of their lines, and `numbers` the numbers of these. Fails if memory runs out.
 pub(crate) fn op_lines(
     alloc: Global,

@@ -5,7 +5,7 @@ use crate::ranks::Ranks;
 use crate::store_version::StoreVersion;
 use std::alloc::Global;
 
-/// So many versions may be held before equal ones are dropped.
+/// The number of versions that may be held before equal ones are dropped.
 const LEAST: usize = 4096;
 
 /// Versions of the kind of the first one. Equal ones are dropped whenever there are twice as many as were left before.

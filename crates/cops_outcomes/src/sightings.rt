@@ -58,7 +58,7 @@ impl Sightings {
         self.writes.has(write)
     }
 
-    /// Sees one more operation. Fails if memory runs out, and is then of no further use.
+    /// Sees one more operation. Fails if memory runs out; what it has seen is then unspecified.
     pub fn see(&mut self, op: Op) -> Result<(), AllocError>
         ensures writes { self.new.writes ≡ self.old.writes }
         ensures seen { OnOk result ((ops : List Operation) → IsSighted self.old ops → IsSighted self.new (ops ++ operation_of op ∷ [])) }

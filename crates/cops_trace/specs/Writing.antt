@@ -43,7 +43,7 @@ pub record CountPrefix (t : ATrace) (c : ACounts) : Type 0 where
   pub inside : c.total ≤ length t.records
   pub counts : AreCountsOf (prefix c.total t) c
 
--- the first of these bytes went out, so many, and the others are left
+-- this number of the bytes went out, the first ones, and the others are left
 pub record HasSent (old new : Option (List ℕ)) (bytes left : List ℕ) (written : ℕ) : Type 0 where
   pub done : List ℕ
   pub bytes_are : bytes ≡ done ++ left
