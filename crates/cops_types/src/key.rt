@@ -1,4 +1,4 @@
-ghost use Rattle.std.specs.Prelude.{◌≡◌, ◌<◌, ◌≤◌, ◌↔◌, ◌==◌, List, ℕ, length, [], IfOk, IfErr, IsErrOf, IsTrue};
+ghost use Rattle.std.specs.Prelude.{◌≡◌, ◌<◌, ◌≤◌, ◌↔◌, List, ℕ, length, [], IfOk, IfErr, IsErrOf, IsTrue};
 ghost use Rattle.cops_types.specs.declared.limits.TheConstants.{MAX_KEY};
 ghost use Rattle.cops_types.specs.KeyValue.{IsKey};
 ghost use Rattle.cops_types.specs.TypeFaults.{IsKeyFault};
@@ -6,110 +6,25 @@ ghost use Rattle.cops_types.specs.TypeFaults.{IsKeyFault};
 use crate::fault::TypeFault;
 use crate::limits::MAX_KEY;
 use crate::op_view::KeyView;
+use crate::short_bytes::{INLINE, ShortBytes};
 use smallvec::SmallVec;
 use std::alloc::{AllocError, Global};
-use std::cmp::Ordering;
-use std::hash::{Hash, Hasher};
 use std::marker::Model;
 
-/// Keys of at most this many bytes are stored inline, longer ones in an allocation.
-const INLINE: usize = 16;
-
-/// A key: 1 to 64 bytes.
-#[derive(Debug, Drop)]
+/// A key: 1 to 64 bytes. Keys compare byte by byte.
+#[derive(Clone, Debug, PartialEq, Eq, PartialOrd, Ord, Hash, Drop)]
 pub struct Key {
-    bytes: SmallVec<u8, INLINE>,
+    bytes: ShortBytes,
 }
 
 impl Model for Key {
     ghost Value = { List ℕ };
 
-    ghost view = { λ k. k.bytes.items };
+    ghost view = { λ k. k.bytes };
 
-    ghost invariant = { λ k. IsKey k.bytes.items };
-}
+    ghost invariant = { λ k. IsKey k.bytes };
 
-impl PartialEq for Key {
-    ghost use Rattle.std.proofs.Common.{rules};
-    ghost use Rattle.std.specs.Cmp.Rules.{comparing};
-    ghost use Rattle.std.specs.Cmp.Lexicographic.{pointwise};
-
-    ghost eq = { pointwise ◌==◌ };
-
-    ghost laws = { Prim.search (comparing, rules) };
-
-    fn eq(&self, other: &Key) -> bool {
-        self.bytes.as_slice() == other.bytes.as_slice()
-    }
-}
-
-impl Eq for Key {
-    ghost use Rattle.std.proofs.Common.{rules};
-    ghost use Rattle.std.specs.Cmp.Rules.{comparing};
-
-    ghost laws = { Prim.search (comparing, rules) };
-}
-
-/// Keys compare byte by byte.
-impl Ord for Key {
-    ghost use Rattle.std.proofs.Common.{rules};
-    ghost use Rattle.std.specs.Cmp.Lexicographic.{slice_cmp};
-    ghost use Rattle.std.specs.Cmp.Rules.{comparing};
-    ghost use Rattle.std.specs.Ordering.{nat_cmp};
-
-    ghost cmp = { slice_cmp nat_cmp };
-
-    ghost total = { Prim.search (comparing, rules) };
-
-    ghost matches_partial_cmp = { Prim.search (comparing, rules) };
-
-    ghost matches_eq = { Prim.search (comparing, rules) };
-
-    fn cmp(&self, other: &Key) -> Ordering {
-        self.bytes.as_slice().cmp(&other.bytes.as_slice())
-    }
-}
-
-impl PartialOrd for Key {
-    ghost use Rattle.std.proofs.Common.{rules};
-    ghost use Rattle.std.specs.Cmp.{partial_order_from_own_ties};
-    ghost use Rattle.std.specs.Cmp.Lexicographic.{slice_cmp};
-    ghost use Rattle.std.specs.Cmp.Rules.{comparing};
-    ghost use Rattle.std.specs.Ordering.{as_partial_cmp, nat_cmp};
-
-    ghost partial_cmp = { as_partial_cmp (slice_cmp nat_cmp) };
-
-    ghost laws = { partial_order_from_own_ties (Prim.search (comparing, rules)) (Prim.search (comparing, rules)) };
-
-    fn partial_cmp(&self, other: &Key) -> Option<Ordering> {
-        Some(self.cmp(other))
-    }
-}
-
-impl Hash for Key {
-    ghost use Rattle.std.proofs.Common.{rules};
-    ghost use Rattle.std.specs.Hash as fed;
-    ghost use Rattle.std.specs.Cmp.Rules.{hashing};
-
-    ghost hash_input = { fed.slice fed.u8 };
-
-    ghost respects_eq = { Prim.search (hashing, rules) };
-
-    fn hash<H: Hasher>(&self, state: &mut H) {
-        self.bytes.as_slice().hash(state);
-    }
-}
-
-/// A copy with the same bytes.
-impl Clone for Key {
-    ghost is_clone = { λ s t. t ≡ s };
-
-    fn clone(&self) -> Result<Key, AllocError> {
-        let alloc = *self.bytes.allocator();
-        Ok(Key {
-            bytes: SmallVec::from_slice(alloc, self.bytes.as_slice())?,
-        })
-    }
+    ghost inverse = { λ items. record { bytes = items } };
 }
 
 impl Key {
@@ -131,7 +46,7 @@ impl Key {
     pub(crate) fn of(alloc: Global, seen: &KeyView<'_>) -> Result<Self, AllocError>
         ensures { IfOk result (λ key. key ≡ seen.now) }
     {
-        let bytes = SmallVec::from_slice(alloc, seen.as_bytes())?;
+        let bytes = ShortBytes::from_slice(alloc, seen.as_bytes())?;
         Ok(Key { bytes })
     }
 
@@ -189,6 +104,8 @@ impl KeyRoom {
         let KeyRoom { bytes: room } = self;
         let mut bytes = room;
         bytes.extend_from_slice(key.as_bytes()).unwrap();
-        Key { bytes }
+        Key {
+            bytes: ShortBytes::of(bytes),
+        }
     }
 }

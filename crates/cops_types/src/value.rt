@@ -1,4 +1,4 @@
-ghost use Rattle.std.specs.Prelude.{◌≡◌, ◌<◌, ◌≤◌, ◌↔◌, ◌==◌, List, ℕ, length, [], IfOk, IfErr, IsErrOf, IsTrue, option_copied};
+ghost use Rattle.std.specs.Prelude.{◌≡◌, ◌<◌, ◌≤◌, ◌↔◌, List, ℕ, length, [], IfOk, IfErr, IsErrOf, IsTrue, option_copied};
 ghost use Rattle.cops_types.specs.declared.limits.TheConstants.{MAX_VALUE_IN_ONE};
 ghost use Rattle.cops_types.specs.KeyValue.{IsValue};
 ghost use Rattle.cops_types.specs.Format.{most_value};
@@ -7,58 +7,25 @@ ghost use Rattle.cops_types.specs.TypeFaults.{IsValueFault};
 use crate::fault::TypeFault;
 use crate::format::Format;
 use crate::op_view::ValueView;
+use crate::short_bytes::{INLINE, ShortBytes};
 use smallvec::SmallVec;
 use std::alloc::{AllocError, Global};
 use std::marker::Model;
 
-/// Values of at most this many bytes are stored inline, longer ones in an allocation.
-const INLINE: usize = 16;
-
 /// A value: at most 16,384 bytes, the limit of format 2.
-#[derive(Debug, Drop)]
+#[derive(Clone, Debug, PartialEq, Eq, Drop)]
 pub struct Value {
-    bytes: SmallVec<u8, INLINE>,
+    bytes: ShortBytes,
 }
 
 impl Model for Value {
     ghost Value = { List ℕ };
 
-    ghost view = { λ v. v.bytes.items };
+    ghost view = { λ v. v.bytes };
 
-    ghost invariant = { λ v. IsValue v.bytes.items };
-}
+    ghost invariant = { λ v. IsValue v.bytes };
 
-impl PartialEq for Value {
-    ghost use Rattle.std.proofs.Common.{rules};
-    ghost use Rattle.std.specs.Cmp.Rules.{comparing};
-    ghost use Rattle.std.specs.Cmp.Lexicographic.{pointwise};
-
-    ghost eq = { pointwise ◌==◌ };
-
-    ghost laws = { Prim.search (comparing, rules) };
-
-    fn eq(&self, other: &Value) -> bool {
-        self.bytes.as_slice() == other.bytes.as_slice()
-    }
-}
-
-impl Eq for Value {
-    ghost use Rattle.std.proofs.Common.{rules};
-    ghost use Rattle.std.specs.Cmp.Rules.{comparing};
-
-    ghost laws = { Prim.search (comparing, rules) };
-}
-
-/// A copy with the same bytes.
-impl Clone for Value {
-    ghost is_clone = { λ s t. t ≡ s };
-
-    fn clone(&self) -> Result<Value, AllocError> {
-        let alloc = *self.bytes.allocator();
-        Ok(Value {
-            bytes: SmallVec::from_slice(alloc, self.bytes.as_slice())?,
-        })
-    }
+    ghost inverse = { λ items. record { bytes = items } };
 }
 
 impl Value {
@@ -90,7 +57,7 @@ impl Value {
         ensures { result ≡ [] }
     {
         Value {
-            bytes: SmallVec::new(alloc),
+            bytes: ShortBytes::new(alloc),
         }
     }
 
@@ -98,7 +65,7 @@ impl Value {
     pub(crate) fn of(alloc: Global, seen: &ValueView<'_>) -> Result<Self, AllocError>
         ensures { IfOk result (λ value. value ≡ seen.now) }
     {
-        let bytes = SmallVec::from_slice(alloc, seen.as_bytes())?;
+        let bytes = ShortBytes::from_slice(alloc, seen.as_bytes())?;
         Ok(Value { bytes })
     }
 
@@ -185,6 +152,8 @@ impl ValueRoom {
         } = self;
         let mut bytes = room;
         bytes.extend_from_slice(value.as_bytes()).unwrap();
-        Value { bytes }
+        Value {
+            bytes: ShortBytes::of(bytes),
+        }
     }
 }
