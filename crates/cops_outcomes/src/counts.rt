@@ -11,7 +11,7 @@ pub struct OutcomeCounts {
 }
 
 impl OutcomeCounts {
-    ghost use Rattle.std.specs.Prelude.{◌≡◌, ◌↔◌, IsTrue, IfOk, string_bytes};
+    ghost use Rattle.std.specs.Prelude.{◌≡◌, ◌↔◌, IsTrue, IfOk, OnErr, string_bytes};
     ghost use Rattle.cops_outcomes.specs.Words.{has_none, outcome_text};
 
     /// Whether there are no such puts.
@@ -21,9 +21,11 @@ impl OutcomeCounts {
         self.took_effect == 0 && self.left_out == 0
     }
 
-    /// The line that reports them, with its line feed, or nothing if there are none. Fails if memory runs out.
+    /// The line that reports them, with its line feed, or nothing if there are none, which allocates nothing. Fails if
+    /// memory runs out.
     pub fn text(self, alloc: Global) -> Result<String, AllocError>
-        ensures { IfOk result (λ text. string_bytes text ≡ outcome_text self) }
+        ensures ok { IfOk result (λ text. string_bytes text ≡ outcome_text self) }
+        ensures err { OnErr result (¬ IsTrue (has_none self)) }
     {
         if self.is_empty() {
             return Ok(String::new(alloc));

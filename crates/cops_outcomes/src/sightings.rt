@@ -1,5 +1,5 @@
 //! What operations show of puts of unknown outcome.
-ghost use Rattle.std.specs.Prelude.{◌≡◌, [], filter, map, nat_eq, not, replicate, IfOk};
+ghost use Rattle.std.specs.Prelude.{◌≡◌, ◌≢◌, ◌<◌, [], filter, map, nat_eq, not, replicate, IfOk, OnErr};
 ghost use Rattle.std.specs.List.{list_any};
 
 use crate::outcomes::Outcomes;
@@ -32,16 +32,18 @@ impl Model for Sightings {
 }
 
 impl Sightings {
-    ghost use Rattle.std.specs.Prelude.{◌↔◌, ◌∷◌, ◌++◌, ℕ, List, Option, OnOk, IsTrue};
+    ghost use Rattle.std.specs.Prelude.{◌↔◌, ◌≢◌, ◌∷◌, ◌++◌, ℕ, List, Option, OnErr, OnOk, IsTrue};
     ghost use Rattle.cops_types.specs.Histories.{Operation, read, write};
     ghost use Rattle.cops_types.specs.Operations.{operation_of};
     ghost use Rattle.cops_outcomes.specs.Outcomes.{same_write};
-    ghost use Rattle.cops_outcomes.specs.Sightings.{IsAfter, IsSighted};
+    ghost use Rattle.cops_outcomes.specs.Sightings.{IsAfter, IsKept, IsSighted};
 
-    /// Nothing seen yet, for puts of unknown outcome that write these. Fails if memory runs out.
+    /// Nothing seen yet, for puts of unknown outcome that write these. Fails if memory runs out; without such puts it
+    /// allocates nothing.
     pub fn new(alloc: Global, writes: Writes) -> Result<Sightings, AllocError>
         ensures writes { IfOk result (λ s. s.writes ≡ writes) }
         ensures nothing { IfOk result (λ s. IsSighted s []) }
+        ensures err { OnErr result (writes ≢ []) }
     {
         let returned = empty_sets(alloc, writes.len())?;
         Ok(Sightings {
@@ -58,10 +60,12 @@ impl Sightings {
         self.writes.has(write)
     }
 
-    /// Sees one more operation. Fails if memory runs out; what it has seen is then unspecified.
+    /// Sees one more operation. Fails if memory runs out; what it has seen is then unspecified. Allocates only where it
+    /// keeps something of the operation.
     pub fn see(&mut self, op: Op) -> Result<(), AllocError>
         ensures writes { self.new.writes ≡ self.old.writes }
         ensures seen { OnOk result ((ops : List Operation) → IsSighted self.old ops → IsSighted self.new (ops ++ operation_of op ∷ [])) }
+        ensures err { OnErr result (IsKept self.old (operation_of op)) }
     {
         if self.writes.is_empty() {
             return Ok(());
@@ -97,6 +101,7 @@ impl Sightings {
     fn see_get(&mut self, got: &Write, version: Version) -> Result<(), AllocError>
         ensures writes { self.new.writes ≡ self.old.writes }
         ensures seen { OnOk result ((ops : List Operation) → IsSighted self.old ops → IsSighted self.new (ops ++ read got.now.key got.now.content version ∷ [])) }
+        ensures err { OnErr result (IsTrue (list_any (same_write got.now) self.old.writes)) }
     {
         if let Some(place) = self.writes.place_of(got) {
             if let Some(versions) = self.returned.get_mut(place) {
@@ -106,10 +111,12 @@ impl Sightings {
         Ok(())
     }
 
-    /// The outcomes, once all operations were seen. Fails if memory runs out.
+    /// The outcomes, once all operations were seen. Fails if memory runs out; without puts of unknown outcome it allocates
+    /// nothing.
     pub fn outcomes(self, alloc: Global) -> Result<Outcomes, AllocError>
         ensures writes { IfOk result (λ o. o.writes ≡ self.writes) }
         ensures after { IfOk result (λ o. (ops : List Operation) → IsSighted self ops → IsAfter o ops []) }
+        ensures err { OnErr result (self.returned ≢ []) }
     {
         let Sightings {
             writes,
@@ -123,7 +130,8 @@ impl Sightings {
 
 /// That many empty sets. Fails if memory runs out.
 fn empty_sets(alloc: Global, count: usize) -> Result<Vec<IndexSet<Version>>, AllocError>
-    ensures { IfOk result (λ sets. map (λ versions. versions.keys) sets.items ≡ replicate count []) }
+    ensures ok { IfOk result (λ sets. map (λ versions. versions.keys) sets.items ≡ replicate count []) }
+    ensures err { OnErr result (0 < count) }
 {
     let mut sets = Vec::with_capacity(alloc, count)?;
     for _i in 0..count {
@@ -138,7 +146,8 @@ fn free_of_each(
     returned: &[IndexSet<Version>],
     puts: &IndexSet<Version>,
 ) -> Result<Vec<VecDeque<Version>>, AllocError>
-    ensures { IfOk result (λ free. map (λ versions. versions.items) free.items ≡ map (λ versions. filter (λ version. not (list_any (nat_eq version) puts.now.keys)) versions.keys) returned.now) }
+    ensures err { OnErr result (returned.now ≢ []) }
+    ensures ok { IfOk result (λ free. map (λ versions. versions.items) free.items ≡ map (λ versions. filter (λ version. not (list_any (nat_eq version) puts.now.keys)) versions.keys) returned.now) }
 {
     let mut free = Vec::with_capacity(alloc, returned.len())?;
     for versions in returned {

@@ -36,7 +36,7 @@ impl Model for Records {
 }
 
 impl Records {
-    ghost use Rattle.std.specs.Prelude.{◌≡◌, ◌+◌, ◌<◌, ◌≤◌, ◌↔◌, [], drop, length, replicate, IfOk, IsErrOf, OnOk, OnErr};
+    ghost use Rattle.std.specs.Prelude.{◌≡◌, ◌+◌, ◌<◌, ◌≤◌, ◌↔◌, [], drop, length, replicate, IfNone, IfOk, IfSome, IsErrOf, OnOk, OnErr};
     ghost use Rattle.cops_types.specs.Format.{IsInFormat};
     ghost use Rattle.cops_types.specs.Operations.{operation_of};
     ghost use Rattle.cops_record.specs.Records.{State, IsFull, recorded, seat_of, seat, slots, with_slot, without_slot, with_op};
@@ -90,6 +90,19 @@ impl Records {
         Ok(())
     }
 
+    /// The index of the client's seat, where a slot is reserved for the client.
+    fn place_with_slot(&self, client: u16) -> Option<usize>
+        ensures some { IfSome result (λ place. (place ≡ client) × (client < length self.now.seats) × (0 < (seat_of self.now client).reserved)) }
+        ensures none { IfNone result ((seat_of self.now client).reserved ≡ 0) }
+    {
+        let place = usize::from(client);
+        if place < self.seats.len() && self.seats[place].reserved > 0 {
+            Some(place)
+        } else {
+            None
+        }
+    }
+
     /// Fills a slot of the client, or cancels it where the operation is not in the format. Where no slot is reserved
     /// for the client, nothing changes.
     pub(crate) fn fill(&mut self, client: u16, op: Op)
@@ -101,14 +114,10 @@ impl Records {
             drop(op);
             return self.cancel(client);
         }
-        let place = usize::from(client);
-        if place >= self.seats.len() {
+        let Some(place) = self.place_with_slot(client) else {
             return;
-        }
+        };
         let seat = self.seats[place];
-        if seat.reserved == 0 {
-            return;
-        }
         self.seats[place] = Seat {
             filled: seat.filled + 1,
             reserved: seat.reserved - 1,
@@ -122,14 +131,10 @@ impl Records {
         ensures given { 0 < (seat_of self.old client).reserved → self.new ≡ without_slot self.old client }
         ensures idle { (seat_of self.old client).reserved ≡ 0 → self.new ≡ self.old }
     {
-        let place = usize::from(client);
-        if place >= self.seats.len() {
+        let Some(place) = self.place_with_slot(client) else {
             return;
-        }
+        };
         let seat = self.seats[place];
-        if seat.reserved == 0 {
-            return;
-        }
         self.seats[place] = Seat {
             filled: seat.filled,
             reserved: seat.reserved - 1,
