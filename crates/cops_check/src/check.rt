@@ -177,9 +177,9 @@ fn checked(
 }
 
 /// Reads JSON Lines to their end, with their versions by their ranks or as they stand, judges the trace of format 2 that
-/// they describe by one worker, and returns the answer of its audit. It writes the text of `explain`, or of `explain_json`, for the faults that are asked for, with the
-/// clients' names and the lines' numbers for the operations, or what is wrong with the first wrong line, and nothing
-/// else. Where a picture is asked for, it also returns that of the one fault that is asked for, or of the first, if
+/// they describe by one worker, and returns the answer of its audit. It writes the text of `explain`, or of
+/// `explain_json`, for the faults that are asked for, with the clients' names and the lines' numbers for the
+/// operations, or what is wrong with the first wrong line, and nothing else. Where a picture is asked for, it also returns that of the one fault that is asked for, or of the first, if
 /// there is such a fault. Nothing is written before the input's end.
 ///
 /// The errors: `ReadFailed` where a read failed, and `WriteFailed` where a write failed, neither of which is tried
