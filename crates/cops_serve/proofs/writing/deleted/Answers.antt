@@ -1,3 +1,4 @@
+use Rattle.std.proofs.Common.{rules}
 use Rattle.cops_types.specs.declared.refusal.Refusal.TheVariants.{NotInFormat, UnknownClient}
 use Rattle.cops_serve.proofs.Changes.{del_in, del_of, where_refused}
 use Rattle.cops_serve.proofs.writing.deleted.Goals as goal
@@ -5,7 +6,7 @@ use Rattle.cops_serve.proofs.writing.deleted.Goals as goal
 pub returns-clause-done : goal.returns-clause-done
 returns-clause-done g c =
     let p = c.in-Ok-del.ensures in
-    del_of c.args.cluster.now c.args.key.now c.in-Ok.key c.in-Ok-del.outcome c.args.client.now c.del.new.client c.in-Ok.ensures.cases (
+    del_of c.args.cluster.now c.args.key.now c.in-Ok.key c.in-Ok-del.outcome c.args.client.now c.del.new.client (search rules) (
       p.owner,
       p.reported,
       p.context,

@@ -1,3 +1,4 @@
+use Rattle.std.proofs.Common.{rules}
 use Rattle.std.specs.Prelude.{Some}
 use Rattle.cops_types.specs.declared.refusal.Refusal.TheVariants.{NotInFormat, UnknownClient}
 use Rattle.cops_serve.proofs.Changes.{no_write, put_in, put_of, where_refused}
@@ -9,8 +10,7 @@ returns-in_default-clone-clause-done g c = no_write c.args.cluster.now c.args.ke
 pub returns-clause-done : goal.returns-clause-done
 returns-clause-done g c =
     let p = c.in-Ok-put.ensures in
-    put_of c.args.cluster.now c.args.key.now c.args.value.now c.in-Ok.key c.in-Ok-clone.value c.in-Ok-put.outcome c.args.client.now c.put.new.client c.in-Ok.ensures.cases
-    c.in-Ok-clone.ensures.cases (
+    put_of c.args.cluster.now c.args.key.now c.args.value.now c.in-Ok.key c.in-Ok-clone.value c.in-Ok-put.outcome c.args.client.now c.put.new.client (search rules) (search rules) (
       p.owner,
       p.reported,
       p.context,

@@ -1,4 +1,4 @@
-use Rattle.std.proofs.Common.{◌≡◌, ◌∙◌, sym, ap, arith}
+use Rattle.std.proofs.Common.{rules, ◌≡◌, ◌∙◌, sym, ap, arith}
 use Rattle.cops_node.specs.declared.outcome.Outcome.TheVariants.{Yes}
 use Rattle.cops_core.specs.World.{gained}
 use Rattle.cops_core.specs.contracts.state.State.{the_view}
@@ -18,8 +18,9 @@ returns-in-Yes-clause-happens c =
     let a = asked c.dcs.ensures.setting c.self.view_is c.requires (omega (arith, c.if-dc-dcs.false, c.dcs.ensures.count)) in
     let w = the_view c.self.inside in
     let made = with_answers w c.args.dc c.primary.result c.ask.new.self in
+    let cloned : c.in-Ok.copy ≡ c.args.key.now = search rules in
     let answered : c.add.new.self.said ≡ gained w.said (record { dc = c.args.dc; pair = record { key = c.args.key.now; version = c.args.version } }) =
-    c.add.ensures ∙ (λ i. gained (c.reserve.ensures.same i) (record { dc = c.args.dc; pair = record { key = c.in-Ok.ensures.cases i; version = c.args.version } })) in
+    c.add.ensures ∙ (λ i. gained (c.reserve.ensures.same i) (record { dc = c.args.dc; pair = record { key = cloned i; version = c.args.version } })) in
     answers a c.args.key.now c.args.version c.primary.result Yes c.node-node.result.now c.ask.new.self (made c.add.new.self.said) c.primary.ensures.count c.node-node.ensures.value c.in-Yes.ensures.happens
     (ap made answered)
 

@@ -45,14 +45,17 @@ add-requires-clause-known c =
 pub returns-in_ok-clone-in-Got-clause-ok : goal.returns-in_ok-clone-in-Got-clause-ok
 returns-in_ok-clone-in-Got-clause-ok c =
     let a = entered c.primary-place.ensures.setting c.self.view_is c.requires (admitted c.in_default.ensures.same c.in_default.ensures.ok) in
+    let op_cloned : c.in_ok-op_key.op_key ≡ c.args.key.now = search rules in
+    let cloned : c.in_ok-copy.copy ≡ c.args.key.now = search rules in
+    let value_cloned : c.in_ok-clone-in-Got.field-0 ≡ c.in-Got.value = search rules in
     let w = the_view c.self.inside in
     let client = c.args.client in
     let made = with_parts w c.home.result c.primary-place.result c.get.new.self w.issued in
     let value = c.in-Got.value in
     let version = c.in-Got.version in
-    let contexts = c.add.ensures ∙ (λ i. slice_set (c.reserve.ensures.same i) client (with_pair (slice_index_or (c.reserve.ensures.same i) client []) (record { key = c.in_ok-copy.ensures.cases i; version = version }))) in
+    let contexts = c.add.ensures ∙ (λ i. slice_set (c.reserve.ensures.same i) client (with_pair (slice_index_or (c.reserve.ensures.same i) client []) (record { key = cloned i; version = version }))) in
     let recorded : c.record.new.history.sessions ≡ with_op c.admit_get.new.history.sessions client (read c.in_ok-op_key.op_key (Some c.in_ok-clone-in-Got.field-0) version) = search rules in
-    let sessions = recorded ∙ (λ i. with_op (c.in_default.ensures.same i) client (read (c.in_ok-op_key.ensures.cases i) (Some (c.in_ok-clone-in-Got.ensures.cases i)) version)) in
+    let sessions = recorded ∙ (λ i. with_op (c.in_default.ensures.same i) client (read (op_cloned i) (Some (value_cloned i)) version)) in
     gets_at a c.args.key.now c.home.result c.primary-place.result (Answered value version) c.node-node.result.now c.get.new.self (made c.add.new.self.pairs c.record.new.history.sessions)
     (ap (λ f. nat_lt (length (context_in w client)) (most_deps f)) (sym c.format-format.ensures.format) ∙ c.in_default.ensures.room) c.home.ensures c.primary-place.ensures.count c.node-node.ensures.value c.in-Got.ensures.happens
     (λ i. made (contexts i) (sessions i))
@@ -64,13 +67,15 @@ add-requires-in-Gone-clause-known c =
 pub returns-in-Gone-clause-ok : goal.returns-in-Gone-clause-ok
 returns-in-Gone-clause-ok c =
     let a = entered c.primary-place.ensures.setting c.self.view_is c.requires (admitted c.in_default.ensures.same c.in_default.ensures.ok) in
+    let op_cloned : c.in_ok-op_key.op_key ≡ c.args.key.now = search rules in
+    let cloned : c.in_ok-copy.copy ≡ c.args.key.now = search rules in
     let w = the_view c.self.inside in
     let client = c.args.client in
     let made = with_parts w c.home.result c.primary-place.result c.get.new.self w.issued in
     let version = c.in-Gone.version in
-    let contexts = c.add-in-Gone.ensures ∙ (λ i. slice_set (c.reserve.ensures.same i) client (with_pair (slice_index_or (c.reserve.ensures.same i) client []) (record { key = c.in_ok-copy.ensures.cases i; version = version }))) in
+    let contexts = c.add-in-Gone.ensures ∙ (λ i. slice_set (c.reserve.ensures.same i) client (with_pair (slice_index_or (c.reserve.ensures.same i) client []) (record { key = cloned i; version = version }))) in
     let recorded : c.record-in-Gone.new.history.sessions ≡ with_op c.admit_get.new.history.sessions client (read c.in_ok-op_key.op_key None version) = search rules in
-    let sessions = recorded ∙ (λ i. with_op (c.in_default.ensures.same i) client (read (c.in_ok-op_key.ensures.cases i) None version)) in
+    let sessions = recorded ∙ (λ i. with_op (c.in_default.ensures.same i) client (read (op_cloned i) None version)) in
     gets_at a c.args.key.now c.home.result c.primary-place.result (Gone version) c.node-node.result.now c.get.new.self (made c.add-in-Gone.new.self.pairs c.record-in-Gone.new.history.sessions)
     (ap (λ f. nat_lt (length (context_in w client)) (most_deps f)) (sym c.format-format.ensures.format) ∙ c.in_default.ensures.room) c.home.ensures c.primary-place.ensures.count c.node-node.ensures.value c.in-Gone.ensures.happens
     (λ i. made (contexts i) (sessions i))
@@ -78,12 +83,13 @@ returns-in-Gone-clause-ok c =
 pub returns-in-Missed-clause-ok : goal.returns-in-Missed-clause-ok
 returns-in-Missed-clause-ok c =
     let a = entered c.primary-place.ensures.setting c.self.view_is c.requires (admitted c.in_default.ensures.same c.in_default.ensures.ok) in
+    let op_cloned : c.in_ok-op_key.op_key ≡ c.args.key.now = search rules in
     let w = the_view c.self.inside in
     let client = c.args.client in
     let made = with_parts w c.home.result c.primary-place.result c.get.new.self w.issued in
     let contexts = c.reserve.ensures.same ∙ sym (set-get_or w.contexts client []) in
     let recorded : c.record-in-Missed.new.history.sessions ≡ with_op c.admit_get.new.history.sessions client (missed c.in_ok-op_key.op_key) = search rules in
-    let sessions = recorded ∙ (λ i. with_op (c.in_default.ensures.same i) client (missed (c.in_ok-op_key.ensures.cases i))) in
+    let sessions = recorded ∙ (λ i. with_op (c.in_default.ensures.same i) client (missed (op_cloned i))) in
     gets_at a c.args.key.now c.home.result c.primary-place.result Nothing c.node-node.result.now c.get.new.self (made c.reserve.new.self.pairs c.record-in-Missed.new.history.sessions)
     (ap (λ f. nat_lt (length (context_in w client)) (most_deps f)) (sym c.format-format.ensures.format) ∙ c.in_default.ensures.room) c.home.ensures c.primary-place.ensures.count c.node-node.ensures.value c.in-Missed.ensures.happens
     (λ i. made (contexts i) (sessions i))

@@ -1,4 +1,4 @@
-use Rattle.std.proofs.Common.{refl}
+use Rattle.std.proofs.Common.{refl, rules}
 use Rattle.cops_types.specs.declared.refusal.Refusal.TheVariants.{ContextFull, UnknownClient}
 use Rattle.cops_serve.proofs.Changes.{changed, got_of, no_get, some_refusal, where_refused}
 use Rattle.cops_serve.proofs.Seats.{kept}
@@ -18,7 +18,7 @@ returns-clause-done g c =
     rw c.in-Some.is (
       (refl, refl, refl, refl, refl, refl),
       changed _ _ _ _ _ _ c.from.ensures c.in-Some-get_mut.ensures.item.3
-          (got_of c.args.self.now.cluster c.args.key.now c.in-Ok.key c.in-Ok-get.outcome c.in-Some-get_mut.client.now c.get.new.client c.in-Ok.ensures.cases (
+          (got_of c.args.self.now.cluster c.args.key.now c.in-Ok.key c.in-Ok-get.outcome c.in-Some-get_mut.client.now c.get.new.client (search rules) (
             p.owner,
             p.reported,
             p.context,
