@@ -1,7 +1,8 @@
 #!/usr/bin/env python3
-"""Makes allocations, reads and writes fail in the test vectors of `crates/cops_vectors` and in commands of the program: first the first call, then the
-second and so on, each in its own run, until a run makes no further call. A run in which nothing fails must give the expected result. A run with a failure must
-give that result too, or report by its status that it is out of memory or that a device failed; then its output is a prefix of the expected output.
+"""Makes allocations, reads and writes fail in the test vectors of `crates/cops_vectors`, in commands of the program and in calls of the library: first the
+first call, then the second and so on, each in its own run, until a run makes no further call. A run in which nothing fails must give the expected result. A
+run with a failure must give that result too, or report by its status that it is out of memory or that a device failed; then its output is a prefix of the
+expected output.
 
 The test vectors retry: an event of a world, an operation of a client and an operation that is fed to an auditor are tried once more. A run of scripts without
 retries may also end with status 0 and a client that stopped because it was out of memory, and at least one run must end so.
@@ -81,6 +82,19 @@ def cases():
         # An operation is tried once more, so that both clients are done whichever of their allocations fails.
         Case("run", [program, "run", data("scripts.json"), os.devnull], (0, ran)),
         Case("run without another try", [program, "run", data("scripts_once.json"), os.devnull], (0, ran), other=STOPPED),
+    ]
+
+
+def library_cases(folder):
+    """The functions of the library, called by a program that allocates nothing itself."""
+    calling, archive = os.path.join(folder, "calling"), os.path.join(ROOT, "crates", "cops_c_interface", "out", "libcops.a")
+    subprocess.run(["cc", "-O1", "-I", os.path.join(ROOT, "release"), os.path.join(ROOT, "tests", "calling.c"), archive, "-o", calling], check=True)
+    with open(data("stale.lines"), "rb") as file:
+        report = file.read()
+    return [
+        Case("the library's audit", [calling, "audit", example("stale.trace")], (1, report)),
+        Case("the library's audit so far", [calling, "so_far", example("stale.trace")], (1, report)),
+        Case("the library's check of lines", [calling, "check_lines", example("stale.jsonl")], (1, json_line(STALE_JSON))),
     ]
 
 
@@ -179,7 +193,7 @@ def main():
     passed = failed = 0
     with tempfile.TemporaryDirectory() as folder:
         refusing = Refusing(folder)
-        for case in cases():
+        for case in (*library_cases(folder), *cases()):
             counts = {kind: refused(refusing, case, kind) for kind in ("allocation", "read", "write")}
             print(f"{case.name}: refused in turn {', '.join(f'{count} {kind}s' for kind, (count, _) in counts.items())}")
             # One more run of each kind has no failure.

@@ -15,12 +15,14 @@ sys.dont_write_bytecode = True
 import plain  # noqa: E402
 import plain_cluster  # noqa: E402
 import plain_reader  # noqa: E402
+from arbitrate import arbitrate  # noqa: E402
 from checks import checks  # noqa: E402
 from conversions import conversions  # noqa: E402
 from deletions import deletions  # noqa: E402
 from cut_traces import cut_traces  # noqa: E402
 from large_traces import each_kind, generated, little_memory, long_chain, long_traces, many_rounds, many_suspects  # noqa: E402
 from pictures import pictures  # noqa: E402
+from postgresql import postgresql  # noqa: E402
 from ranks import ranks  # noqa: E402
 from redis import redis  # noqa: E402
 from traces import BUILT, LIMITS, ROOT, audited, by_stalling_pipe, check, cops, ended, example, ran, skip, trace  # noqa: E402
@@ -576,8 +578,8 @@ for tests in (
     examples, deletions, limits, conversions, long_chain, many_rounds, faults, cut_traces, shown, scenarios, refusals, faulty_scenarios, replaced,
     over_inputs, lines_in_place_of_a_trace, scripts, mixed_scripts, working_clusters, plain_cluster.random_worlds, many_workers, served, served_deletions,
     replies, strange_peers, sent_behind, idle_clients, listens_here_alone, words, devices, on_a_terminal, generated, long_traces, each_kind, many_suspects,
-    little_memory, no_thread, imports, checks, ranks, outcomes, pictures, redis, definition_files, mutations, plain.rows, plain.random_histories,
-    plain.random_cuts, plain.cuts_of_deletions, plain_reader.changed_bytes,
+    little_memory, no_thread, imports, checks, ranks, outcomes, pictures, redis, postgresql, arbitrate, definition_files, mutations,
+    plain.rows, plain.random_histories, plain.random_cuts, plain.cuts_of_deletions, plain_reader.changed_bytes,
 ):
     tests()
 sys.exit(ended())

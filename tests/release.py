@@ -1,6 +1,6 @@
 #!/usr/bin/env python3
-"""Tests of the release, with nothing but the tools of a shell on PATH. release/cops is the program that was proved and built here. It is run if the
-sources are those that it was built from. If they are not, or if it is another program, it is not run.
+"""Tests of the release, with nothing but the tools of a shell on PATH. The program and the library in release/ are those that were proved and built here.
+release/cops is run if the sources are those that it was built from. If they are not, or if it is another program, it is not run.
 
 Prints a line for each test that fails, and at the end `N passed, M failed`.
 """
@@ -12,13 +12,16 @@ import sys
 import tempfile
 
 sys.dont_write_bytecode = True
-from traces import ROOT, check, ended  # noqa: E402
+from traces import ROOT, check, ended, skip  # noqa: E402
 
 TOOLS = ("sh", "dirname", "find", "mv", "rm", "sed", "sha256sum", "sort", "touch")
 ANSWER = (0, b"accepted: 2 operations, 1 puts\n", b"")
 NOT_OF_THESE = b"cops: release/cops is not the program of these sources: it is proved and built anew, in minutes at the first time\n"
 NO_TOOLCHAIN = (4, b"", NOT_OF_THESE + b"cops: the command rt of the Rattle kit is not on PATH\n")
 MADE_WITH = "# Proved and built with "
+PAGES = ("cops.1", "cops.bash", "_cops", "cops.fish")
+# What is released, from which crate.
+MADE = {"cops": "cops", "libcops.a": "cops_c_interface", "libcops.so": "cops_c_interface"}
 BUILD = """#!/bin/sh
 mkdir -p "$(dirname "$0")/crates/cops/out" && cp "$(dirname "$0")/release/cops" "$(dirname "$0")/crates/cops/out/cops"
 """
@@ -78,13 +81,13 @@ def toolchain_of(root):
         return next(line for line in file if line.startswith(MADE_WITH)).removeprefix(MADE_WITH).strip()
 
 
-def differences(root, program, toolchain):
-    """What is wrong with the release of a tree, given the program that this toolchain built from the tree. All toolchains with the same logic build the same
-    bytes."""
-    release = os.path.join(root, "release", "cops")
+def differences(root, toolchain):
+    """What is wrong with the release of a tree, given that this toolchain built the program and the library from the tree. All toolchains with the same logic
+    build the same bytes."""
     hashes = subprocess.run(["sha256sum", "-c", "--status", "release/SOURCES"], cwd=root)
-    if not filecmp.cmp(program, release, shallow=False):
-        yield "release/cops is not the program that was proved: release/make has to run after a change of what it is made of"
+    for name, crate in MADE.items():
+        if not filecmp.cmp(os.path.join(ROOT, "crates", crate, "out", name), os.path.join(root, "release", name), shallow=False):
+            yield f"release/{name} is not what was proved: release/make has to run after a change of what it is made of"
     if hashes.returncode:
         yield "release/SOURCES names other files than there are: release/make has to run"
     if logic_of(toolchain_of(root)) != logic_of(toolchain):
@@ -94,19 +97,43 @@ def differences(root, program, toolchain):
 def is_what_was_proved():
     program = os.path.join(ROOT, "crates", "cops", "out", "cops")
     toolchain = subprocess.run(["rt", "version"], stdout=subprocess.PIPE, text=True).stdout.strip()
-    check("the release", list(differences(ROOT, program, toolchain)), [])
+    check("the release", list(differences(ROOT, toolchain)), [])
     printed = subprocess.run([program, "--version"], stdout=subprocess.PIPE, text=True).stdout
     check("the version names the toolchain and the logic", printed, f"cops 0.1.0 ({toolchain_of(ROOT).replace(' logic', ', logic')})\n")
 
-    def changed(copy):
-        one_byte_changed(copy.file("release", "cops"))
-        check("a changed byte is reported", len(list(differences(copy.root, program, toolchain))), 2)
+    def changed(name):
+        def report(copy):
+            one_byte_changed(copy.file("release", name))
+            check(f"a changed byte of {name} is reported", len(list(differences(copy.root, toolchain))), 2)
+
+        return report
 
     def other_logic(copy):
-        check("another logic is reported", len(list(differences(copy.root, program, "rattle-kit-0 logic 0"))), 1)
+        check("another logic is reported", len(list(differences(copy.root, "rattle-kit-0 logic 0"))), 1)
 
-    on_a_copy(changed)
+    for name in MADE:
+        on_a_copy(changed(name))
     on_a_copy(other_logic)
+
+
+def has_its_pages():
+    """The man page and the completions are those of this program, and the shells that are here can read them."""
+    program = os.path.join(ROOT, "crates", "cops", "out", "cops")
+    with tempfile.TemporaryDirectory() as folder:
+        subprocess.run([sys.executable, os.path.join(ROOT, "release", "pages"), program, folder], check=True)
+        for name in PAGES:
+            released = os.path.join(ROOT, "release", name)
+            check(f"release/{name}", os.path.exists(released) and filecmp.cmp(os.path.join(folder, name), released, shallow=False), True)
+    for shell, name in (("bash", "cops.bash"), ("zsh", "_cops"), ("fish", "cops.fish")):
+        if shutil.which(shell):
+            ran = subprocess.run([shell, "-n", os.path.join(ROOT, "release", name)], capture_output=True)
+            check(f"{shell} reads release/{name}", (ran.returncode, ran.stderr), (0, b""))
+        else:
+            skip(f"{shell} reads release/{name}", f"{shell} is not installed")
+    for words, wanted in ((["cops", "ch"], "check"), (["cops", "audit", "--w"], "--workers"), (["cops", "serve", "7070", "--s"], "--sessions")):
+        code = f"source release/cops.bash; COMP_WORDS=({' '.join(words)}); COMP_CWORD={len(words) - 1}; _cops; echo ${{COMPREPLY[@]}}"
+        ran = subprocess.run(["bash", "-c", code], cwd=ROOT, stdout=subprocess.PIPE, text=True)
+        check(f"bash completes {words}", ran.stdout, f"{wanted}\n")
 
 
 def is_run(copy):
@@ -154,6 +181,7 @@ def is_built_of_other_sources(copy):
 
 
 is_what_was_proved()
+has_its_pages()
 for tests in (is_run, is_not_run_when_changed, is_not_run_of_other_sources, is_built_of_other_sources):
     on_a_copy(tests)
 sys.exit(ended())

@@ -1,5 +1,5 @@
 -- What answers mean for bytes that may be cut.
-use Rattle.std.proofs.Common.{◌≡◌, ℕ, List, Vec, Global, Option, Some, None, Result, Ok, Err, subst, ap, inl, inr}
+use Rattle.std.proofs.Common.{◌≡◌, ℕ, List, Vec, Global, Option, Some, None, Result, Ok, Err, subst, inl, inr}
 use Rattle.std.specs.Prelude.{IfOk, IfSome}
 use Rattle.std.specs.Result.{result_or}
 use Rattle.cops_types.specs.Histories.{Sessions}
@@ -7,16 +7,15 @@ use Rattle.cops_audit.specs.declared.verdict.SoFar.{SoFar}
 use Rattle.cops_audit.specs.declared.verdict.SoFar.TheVariants.{Clean, Waiting, Refused}
 use Rattle.cops_audit.specs.SoFar.{IsSoFar, HasLastingFault}
 use Rattle.cops_trace.specs.declared.fault.TraceFault.{TraceFault}
-use Rattle.cops_trace.specs.declared.fault.TraceFault.TheVariants.{Cut, Memory, ReadFailed}
-use Rattle.cops_trace.specs.Lines.{fault_line}
 use Rattle.cops_trace.specs.declared.sink.SinkTaken.{SinkTaken}
-use Rattle.cops_trace.specs.Text.{sessions_of}
-use Rattle.cops_trace.specs.Answer.{AgreesInto, BeginsAs, HasFault, TakesFrom}
+use Rattle.cops_trace.specs.Text.{ATrace, sessions_of}
+use Rattle.cops_trace.specs.Answer.{AgreesInto, BeginsAs, Says, TakesFrom}
 use Rattle.cops_audit_commands.specs.declared.fed.Fed.{Fed}
 use Rattle.cops_audit_commands.specs.Fed.{WasFed}
 use Rattle.cops_audit_commands.specs.declared.audit.Answer.{Answer}
-use Rattle.cops_audit_commands.specs.declared.audit.Answer.TheVariants.{Accepted, Faulty}
+use Rattle.cops_audit_commands.specs.declared.audit.Answer.TheVariants.{Accepted}
 use Rattle.cops_audit_commands.specs.Audit.{AuditSays, IsReported}
+use Rattle.cops_audit_commands.specs.Convergent.{EncodesConvergent}
 use Rattle.cops_audit_commands.specs.SoFar.{IsSoundSoFar, SaysSoFar, answer_so_far, cut_text}
 use Rattle.cops_audit_commands.proofs.ReportedText.{accepted_is_convergent}
 
@@ -57,20 +56,19 @@ pub reported_whole : {E : Type 0} (bytes : List ℕ) (taken : SinkTaken Fed) (re
 reported_whole bytes taken (Err e) takes place is = tt
 reported_whole bytes taken (Ok reported) takes place is = inr (inl (takes.trace, subst (BeginsAs bytes takes.trace) place takes.begins, is))
 
--- a trace that is cut has that fault
-pub cut_fault : (bytes : List ℕ) (taken : SinkTaken Fed) (offset : ℕ) → TakesFrom WasFed bytes taken → taken.cut ≡ Some offset → HasFault bytes (Cut offset)
-cut_fault bytes taken offset takes place =
-    let cut = subst (BeginsAs bytes takes.trace) place takes.begins in
-    inr (inl (record { begun = cut.begun; rest = cut.rest; begins = cut.begins; stands = cut.stands; fault_is = ap Cut cut.place }))
+-- what is said of a whole trace
+pub whole_said : {E : Type 0} (bytes : List ℕ) (fed : Fed) (result : Result (Answer × Vec ℕ Global) E) → ((t : ATrace) × Says bytes (Ok t) × WasFed fed t)
+    → ((t : ATrace) → WasFed fed t → IfOk result (λ reported. IsReported t reported.0 reported.1.items)) → IfOk result (λ reported. AuditSays bytes reported.0 reported.1.items)
+whole_said bytes fed (Err e) whole judged = tt
+whole_said bytes fed (Ok reported) (t, says, was) judged = inl (t, says, judged t was)
 
--- the line of a fault
-pub reported_faulty : {E : Type 0} (bytes : List ℕ) (e : TraceFault) (result : Result (Answer × Vec ℕ Global) E) → HasFault bytes e → IfOk result (λ reported. (reported.0 ≡ Faulty) × (reported.1.items ≡ fault_line e))
-    → IfOk result (λ reported. AuditSays bytes reported.0 reported.1.items)
-reported_faulty bytes e (Err x) fault is = tt
-reported_faulty bytes e (Ok reported) fault is = inr (e, fault, is.0, is.1)
+-- an answer that accepts
+pub accepted_of : {E : Type 0} (bytes : List ℕ) (result : Result (Answer × Vec ℕ Global) E) → IfOk result (λ reported. AuditSays bytes reported.0 reported.1.items)
+    → IfOk result (λ reported. reported.0 ≡ Accepted → EncodesConvergent bytes)
+accepted_of bytes (Err e) says = tt
+accepted_of bytes (Ok reported) says = λ is. accepted_is_convergent bytes reported.1.items (subst (λ (x : Answer). AuditSays bytes x reported.1.items) is says)
 
--- a fault that was met in what was fed
-pub fed_fault : (bytes : List ℕ) (e : TraceFault) → (e ≡ Memory → ⊥) → (e ≡ ReadFailed → ⊥) → AgreesInto WasFed bytes (Err e) → HasFault bytes e
-fed_fault bytes e m r (inl h) = absurd (m h)
-fed_fault bytes e m r (inr (inl h)) = absurd (r h)
-fed_fault bytes e m r (inr (inr h)) = h.0
+pub accepted_of_so_far : {E : Type 0} (bytes : List ℕ) (result : Result (Answer × Vec ℕ Global) E) → IfOk result (λ reported. SaysSoFar bytes reported.0 reported.1.items)
+    → IfOk result (λ reported. reported.0 ≡ Accepted → IsSoundSoFar bytes)
+accepted_of_so_far bytes (Err e) says = tt
+accepted_of_so_far bytes (Ok reported) says = λ is. accepted_is_sound bytes reported.1.items (subst (λ (x : Answer). SaysSoFar bytes x reported.1.items) is says)

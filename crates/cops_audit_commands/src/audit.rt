@@ -1,10 +1,10 @@
 //! The audit of a trace's bytes.
-ghost use Rattle.std.specs.Prelude.{◌≡◌, ◌⊎◌, ◌↔◌, ◌<◌, List, ℕ, IfOk, IfErr, IfSome, IsErrOf, Ok, Err};
+ghost use Rattle.std.specs.Prelude.{◌≡◌, ◌≢◌, ◌⊎◌, ◌↔◌, ◌<◌, List, ℕ, IfOk, IfErr, IfSome, IsErrOf, Ok, Err};
 ghost use Rattle.std.specs.Io.KnownBytes.{Keeps};
 ghost use Rattle.cops_types.specs.Failures.{ReportsFailure};
 ghost use Rattle.cops_types.specs.declared.limits.TheConstants.{MAX_WORKERS};
 ghost use Rattle.cops_types.specs.Counted.{failures, inner};
-ghost use Rattle.cops_trace.specs.Answer.{AgreesInto, TakesFrom};
+ghost use Rattle.cops_trace.specs.Answer.{Agrees, AgreesInto, Says};
 ghost use Rattle.cops_trace.specs.Lines.{fault_line};
 ghost use Rattle.cops_batch.specs.Pieces.{MayHoldPiece};
 ghost use Rattle.cops_audit.specs.Verdicts.{IsVerdict};
@@ -13,7 +13,7 @@ ghost use Rattle.cops_audit_commands.specs.Audit.{AuditSays, Writes, WritesPrefi
 ghost use Rattle.cops_audit_commands.specs.Convergent.{EncodesConvergent};
 ghost use Rattle.cops_audit_commands.specs.Fed.{WasFed};
 
-use crate::alone::judged_alone;
+use crate::alone::{judged_alone, whole};
 use crate::fed::Fed;
 use cops_audit::Verdict;
 use cops_batch::{BatchFault, judge_with};
@@ -124,35 +124,39 @@ fn judged<T: Threads + Wait + Sync, G: Gate>(
     }
 }
 
-/// The answer for bytes that have this fault, with its line.
-pub(crate) fn faulty(alloc: Global, fault: &TraceFault) -> Result<(Answer, Vec<u8>), StreamFault>
-    ensures reported { IfOk result (λ reported. (reported.0 ≡ Answer.Faulty) × (reported.1.items ≡ fault_line fault.now)) }
-    ensures memory { IfErr result (λ e. e ≡ StreamFault.Memory) }
+/// What was taken of a whole trace, or why there is none: the bytes have a fault, which a cut is too, or reading failed.
+fn whole_trace(read: Result<SinkTaken<Fed>, TraceFault>) -> Result<Fed, TraceFault>
+    ensures whole { (bytes : List ℕ) → AgreesInto WasFed bytes read → IfOk result (λ fed. (t : ATrace) × Says bytes (Ok t) × WasFed fed t) }
+    ensures fault { (bytes : List ℕ) → AgreesInto WasFed bytes read → IfErr result (λ fault. Agrees bytes (Err fault)) }
+    ensures read_failed { IsErrOf result TraceFault.ReadFailed → read ≡ Err TraceFault.ReadFailed }
+    ensures read_reported { IsErrOf read TraceFault.ReadFailed → IsErrOf result TraceFault.ReadFailed }
 {
-    let mut text = Vec::new(alloc);
-    fault_line(alloc, fault, &mut text).or(Err(StreamFault::Memory))?;
-    Ok((Answer::Faulty, text))
+    let SinkTaken { sink, cut } = read?;
+    match cut {
+        Some(offset) => {
+            drop(sink);
+            Err(TraceFault::Cut { offset })
+        }
+        None => Ok(sink),
+    }
 }
 
-/// The answer for a trace that is whole or cut, with its text.
-fn reported_of<T: Threads + Wait + Sync, G: Gate>(
-    rt: &T,
-    alloc: Global,
-    taken: SinkTaken<Fed>,
-    workers: u8,
-    gate: &G,
-) -> Result<(Answer, Vec<u8>), StreamFault>
-    ensures says { (bytes : List ℕ) → TakesFrom WasFed bytes taken → IfOk result (λ reported. AuditSays bytes reported.0 reported.1.items) }
-    ensures bad { IsErrOf result StreamFault.BadWorkers → (workers ≡ 0) ⊎ (MAX_WORKERS < workers) }
-    ensures held { IsErrOf result StreamFault.Held → (i : ℕ) × (i < workers) × MayHoldPiece (G.may_hold gate.now) i }
-    ensures no_read { ¬ IsErrOf result StreamFault.ReadFailed }
-    ensures no_write { ¬ IsErrOf result StreamFault.WriteFailed }
+/// The answer where there is no whole trace, with its text.
+pub(crate) fn no_trace(alloc: Global, fault: TraceFault) -> Result<(Answer, Vec<u8>), StreamFault>
+    ensures says { (bytes : List ℕ) → Agrees bytes (Err fault) → IfOk result (λ reported. AuditSays bytes reported.0 reported.1.items) }
+    ensures reported { IfOk result (λ reported. (reported.0 ≡ Answer.Faulty) × (reported.1.items ≡ fault_line fault)) }
+    ensures known { IfOk result (λ reported. (fault ≢ TraceFault.Memory) × (fault ≢ TraceFault.ReadFailed)) }
+    ensures faults { IfErr result (λ e. (e ≡ StreamFault.Memory) ⊎ (e ≡ StreamFault.ReadFailed)) }
+    ensures read_failed { IsErrOf result StreamFault.ReadFailed ↔ (fault ≡ TraceFault.ReadFailed) }
 {
-    let SinkTaken { sink, cut } = taken;
-    match cut {
-        Some(offset) => faulty(alloc, &TraceFault::Cut { offset }),
-        None if workers == 1 => judged_alone(rt, alloc, sink, gate),
-        None => judged(rt, alloc, sink, workers, gate),
+    match fault {
+        TraceFault::Memory => Err(StreamFault::Memory),
+        TraceFault::ReadFailed => Err(StreamFault::ReadFailed),
+        fault => {
+            let mut text = Vec::new(alloc);
+            fault_line(alloc, &fault, &mut text).or(Err(StreamFault::Memory))?;
+            Ok((Answer::Faulty, text))
+        }
     }
 }
 
@@ -171,11 +175,25 @@ fn reported<T: Threads + Wait + Sync, G: Gate>(
     ensures read_reported { IsErrOf read TraceFault.ReadFailed → IsErrOf result StreamFault.ReadFailed }
     ensures no_write { ¬ IsErrOf result StreamFault.WriteFailed }
 {
-    match read {
-        Ok(taken) => reported_of(rt, alloc, taken, workers, gate),
-        Err(TraceFault::Memory) => Err(StreamFault::Memory),
-        Err(TraceFault::ReadFailed) => Err(StreamFault::ReadFailed),
-        Err(fault) => faulty(alloc, &fault),
+    match whole_trace(read) {
+        Ok(fed) if workers == 1 => judged_alone(rt, alloc, fed, gate),
+        Ok(fed) => judged(rt, alloc, fed, workers, gate),
+        Err(fault) => no_trace(alloc, fault),
+    }
+}
+
+/// Judges the bytes of a trace by one worker without threads, and returns the answer with the report, or with the line of
+/// the bytes' fault.
+///
+/// Fails if memory runs out. A read from memory does not fail; as that is not proved, such a failure would be reported
+/// as that of memory.
+pub fn audit_bytes(alloc: Global, bytes: &[u8]) -> Result<(Answer, Vec<u8>), Memory>
+    ensures says { IfOk result (λ reported. AuditSays bytes.now reported.0 reported.1.items) }
+    ensures accepted { IfOk result (λ reported. reported.0 ≡ Answer.Accepted → EncodesConvergent bytes.now) }
+{
+    match whole_trace(read_into::<Fed, &[u8]>(alloc, &mut Counted::new(bytes))) {
+        Ok(fed) => whole(alloc, fed),
+        Err(fault) => no_trace(alloc, fault).or(Err(Memory)),
     }
 }
 

@@ -13,9 +13,9 @@ mod laws;
 mod show;
 mod so_far;
 
-pub use audit::{Answer, StreamFault, audit_stream};
+pub use audit::{Answer, StreamFault, audit_bytes, audit_stream};
 pub use convert::{convert_stream, converted_line};
 pub use explain::{Explained, ExplainedText, Request, explain_stream, explanation};
 pub use laws::{one_audit, one_audit_so_far, one_explanation};
 pub use show::show_stream;
-pub use so_far::audit_so_far;
+pub use so_far::{audit_bytes_so_far, audit_so_far};

@@ -11,7 +11,7 @@ ghost use Rattle.cops_audit_commands.specs.Fed.{WasFed};
 ghost use Rattle.cops_audit_commands.specs.SoFar.{IsSoundSoFar, SaysSoFar, WritesPrefixSoFar, WritesSoFar, answer_so_far, cut_text};
 
 use crate::alone::whole;
-use crate::audit::{Answer, StreamFault, faulty};
+use crate::audit::{Answer, StreamFault, no_trace};
 use crate::fed::Fed;
 use cops_audit::SoFar;
 use cops_trace::{SinkTaken, TraceFault, read_into};
@@ -75,10 +75,20 @@ fn reported(
 {
     match read {
         Ok(taken) => reported_of(alloc, taken).or(Err(StreamFault::Memory)),
-        Err(TraceFault::Memory) => Err(StreamFault::Memory),
-        Err(TraceFault::ReadFailed) => Err(StreamFault::ReadFailed),
-        Err(fault) => faulty(alloc, &fault),
+        Err(fault) => no_trace(alloc, fault),
     }
+}
+
+/// Judges the bytes of a trace, which may be cut, and returns the answer with the text that `audit_so_far` writes.
+///
+/// Fails if memory runs out. A read from memory does not fail; as that is not proved, such a failure would be reported
+/// as that of memory.
+pub fn audit_bytes_so_far(alloc: Global, bytes: &[u8]) -> Result<(Answer, Vec<u8>), Memory>
+    ensures says { IfOk result (λ reported. SaysSoFar bytes.now reported.0 reported.1.items) }
+    ensures accepted { IfOk result (λ reported. reported.0 ≡ Answer.Accepted → IsSoundSoFar bytes.now) }
+{
+    let read = read_into::<Fed, &[u8]>(alloc, &mut Counted::new(bytes));
+    reported(alloc, read).or(Err(Memory))
 }
 
 /// Reads a trace to its end or its first fault, and does the same as `audit_stream` with one worker, unless the trace

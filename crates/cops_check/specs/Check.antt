@@ -5,6 +5,7 @@ use Rattle.std.specs.Io.KnownBytes.{Appends}
 use Rattle.cops_types.specs.Convergence.{IsCausallyConvergent}
 use Rattle.cops_types.specs.declared.format.Format.TheVariants.{Two}
 use Rattle.cops_types.specs.declared.selection.Selection.{Selection}
+use Rattle.cops_types.specs.declared.selection.Selection.TheVariants.{First}
 use Rattle.cops_trace.specs.Text.{ATrace, IsTrace, sessions_of}
 use Rattle.cops_explain.specs.declared.naming.Naming.{Naming}
 use Rattle.cops_explain.specs.declared.naming.Naming.TheVariants.{Lines}
@@ -70,6 +71,10 @@ DrawsBy rules asked bytes picture =
 
 abbrev pub CheckSays : Bool → Request → List ℕ → Answer → List ℕ → Type 0
 CheckSays is_ranked request bytes answer reported = (rules : Rules) × AreRules is_ranked rules × SaysBy rules request bytes answer reported
+
+-- the JSON object on the first faults
+abbrev pub CheckSaysJson : Bool → List ℕ → Answer → List ℕ → Type 0
+CheckSaysJson is_ranked bytes answer reported = CheckSays is_ranked (record { faults = First; is_drawn = false; is_json = true }) bytes answer reported
 
 abbrev pub DrawingSays : Bool → Selection → List ℕ → Option (Vec ℕ) → Type 0
 DrawingSays is_ranked asked bytes picture = (rules : Rules) × AreRules is_ranked rules × DrawsBy rules asked bytes picture

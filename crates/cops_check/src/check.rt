@@ -7,7 +7,7 @@ ghost use Rattle.cops_import.specs.declared.rules.Rules.{Rules as ARules};
 ghost use Rattle.cops_import.specs.Imports.{IsImport};
 ghost use Rattle.cops_import.specs.Line.{AreRead};
 ghost use Rattle.cops_audit_commands.specs.declared.audit.Answer.TheVariants as answer;
-ghost use Rattle.cops_check.specs.Check.{CheckSays, DescribesConvergent, DrawingSays, DrawsBy, SaysBy, WritesChecked, WritesPrefixChecked, naming_in, own_names, wrong_text};
+ghost use Rattle.cops_check.specs.Check.{CheckSays, CheckSaysJson, DescribesConvergent, DrawingSays, DrawsBy, SaysBy, WritesChecked, WritesPrefixChecked, naming_in, own_names, wrong_text};
 
 use crate::fault::CheckFault;
 use crate::numbers::{line_numbers, op_lines, trace_lines};
@@ -20,7 +20,7 @@ use cops_import::{
     import_stream, outcome_counts, survey, survey_outcomes,
 };
 use cops_trace::{Trace, read_trace};
-use cops_types::{Counted, Format, write_text};
+use cops_types::{Counted, Format, Memory, Selection, write_text};
 use std::alloc::{AllocError, Global};
 use std::io::{Read, Write};
 
@@ -176,11 +176,35 @@ fn checked(
     }
 }
 
+/// Judges JSON Lines in memory, with their versions by their ranks or as they stand, as `check_stream` does, and returns
+/// the answer with the JSON object for the first faults.
+///
+/// Fails if memory runs out. The lines do not change meanwhile; as that is not proved, such a failure would be reported
+/// as that of memory.
+pub fn check_bytes(
+    alloc: Global,
+    lines: &[u8],
+    is_ranked: bool,
+) -> Result<(Answer, Vec<u8>), Memory>
+    ensures says { IfOk result (λ reported. CheckSaysJson is_ranked lines.now reported.0 reported.1.items) }
+    ensures accepted { IfOk result (λ reported. reported.0 ≡ answer.Accepted → DescribesConvergent is_ranked lines.now) }
+{
+    let request = Request {
+        faults: Selection::First,
+        is_drawn: false,
+        is_json: true,
+    };
+    match checked(alloc, lines, is_ranked, request) {
+        Ok(ExplainedText { explained, text }) => Ok((explained.answer, text)),
+        Err(_) => Err(Memory),
+    }
+}
+
 /// Reads JSON Lines to their end, with their versions by their ranks or as they stand, judges the trace of format 2 that
 /// they describe by one worker, and returns the answer of its audit. It writes the text of `explain`, or of
-/// `explain_json`, for the faults that are asked for, with the clients' names and the lines' numbers for the
-/// operations, or what is wrong with the first wrong line, and nothing else. Where a picture is asked for, it also returns that of the one fault that is asked for, or of the first, if
-/// there is such a fault. Nothing is written before the input's end.
+/// `explain_json`, for the faults that are asked for, with the clients' names and the lines' numbers for the operations,
+/// or what is wrong with the first wrong line, and nothing else. Where a picture is asked for, it also returns that of
+/// the one fault that is asked for, or of the first, if there is such a fault. Nothing is written before the input's end.
 ///
 /// The errors: `ReadFailed` where a read failed, and `WriteFailed` where a write failed, neither of which is tried
 /// again; `Memory` where memory runs out; `Changed` where the lines name other clients, or have other versions, than a

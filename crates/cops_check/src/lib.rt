@@ -8,5 +8,5 @@ mod check;
 mod fault;
 mod numbers;
 
-pub use check::check_stream;
+pub use check::{check_bytes, check_stream};
 pub use fault::CheckFault;
