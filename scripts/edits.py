@@ -5,7 +5,7 @@ import shutil
 import tempfile
 
 HEADER = re.compile(r"(?m)^(?:pub(?:\([^)]*\))? )?(?:unsafe )?(?:(impl)\b([^{]*)|mod\b|struct\b|enum\b|trait\b)")
-FUNCTION = re.compile(r"(?m)^( *)(?:pub(?:\([^)]*\))? )?(?:const )?(?:extern "C" )?fn (\w+)")
+FUNCTION = re.compile(r"(?m)^( *)(?:pub(?:\([^)]*\))? )?(?:const )?(?:extern \S+ )?fn (\w+)")
 # A method, or a function in a module. The bare name of a function in a root file could also be the name of a module.
 FUNCTION_PATH = re.compile(r"::\w+\Z")
 COUNTS = re.compile(r"only=(\d+) proved=(\d+)\Z")
