@@ -175,7 +175,8 @@ class Cluster:
         primary, replica = os.path.join(folder, "primary"), os.path.join(folder, "replica")
         quiet = {"stdout": subprocess.DEVNULL, "check": True, "cwd": "/"}
         try:
-            subprocess.run(as_nobody([os.path.join(bin_folder, "initdb"), "-D", primary, "-U", "cops", "-A", "trust", "--no-sync"]), **quiet)
+            options = ["-U", "cops", "-A", "trust", "--no-locale", "-E", "UTF8", "--no-sync"]
+            subprocess.run(as_nobody([os.path.join(bin_folder, "initdb"), "-D", primary, *options]), **quiet)
             self.servers.append(Server(bin_folder, primary))
             self.at(0, TABLE)
             source = ["-h", "127.0.0.1", "-p", str(self.servers[0].port), "-U", "cops"]
