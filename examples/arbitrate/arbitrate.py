@@ -134,10 +134,17 @@ def conflicts(ordered):
             puts[it.key][it.session].append(it)
             places[it.key][it.session].append(lengths[it.session])
         if it.source:
-            for session, of_session in puts[it.key].items():
-                count = bisect.bisect_right(places[it.key][session], seen[numbers[session]])
-                if count and of_session[count - 1] is not it.source:
-                    yield of_session[count - 1], it.source, f"line {it.number} returned this, and knew of the one before"
+            counts = {session: seen[numbers[session]] for session in puts[it.key]}
+            yield from before_source(it, puts[it.key], places[it.key], counts)
+
+
+def before_source(get, puts, places, counts):
+    """The steps from the last put of each session in the past of a get to the put that it returned. Of each session there are its puts on the key, which of its
+    operations they are, and how many of its operations are in the past."""
+    for session, of_session in puts.items():
+        count = bisect.bisect_right(places[session], counts[session])
+        if count and of_session[count - 1] is not get.source:
+            yield of_session[count - 1], get.source, f"line {get.number} returned this, and knew of the one before"
 
 
 def in_order(operations, steps):
