@@ -6,7 +6,7 @@ use Rattle.cops_command.specs.Status.{number}
 use Rattle.cops_command.specs.declared.status.Status.TheVariants.{NoMemory}
 use Rattle.cops_audit_commands.specs.declared.audit.Answer.{Answer}
 use Rattle.cops_audit_commands.specs.Audit.{answer_status}
-use Rattle.cops_c_interface.specs.declared.TheConstants.{TOO_SMALL}
+use Rattle.cops_c_interface.specs.declared.leaving.TheConstants.{TOO_SMALL}
 
 -- the whole text is at the beginning of the buffer, whose rest is as it was, and the status is the answer's
 abbrev pub IsWritten : Answer → List ℕ → List ℕ → List ℕ → ℕ → ℕ → Type 0
