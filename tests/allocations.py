@@ -46,6 +46,8 @@ class Case(typing.NamedTuple):
     words: list
     wanted: tuple
     failures: tuple = (MEMORY, DEVICE)
+    # What its standard input has.
+    given: bytes = b""
     # Another output that it may give with status 0 if an allocation fails, and must give in at least one run.
     other: typing.Optional[re.Pattern] = None
 
@@ -60,6 +62,9 @@ def cases():
         report = file.read()
     with open(data("stale.explained"), "rb") as file:
         explained = file.read()
+    with open(example("stale.jsonl"), "rb") as file:
+        stale = file.read()
+    follow_text = f"so far: refused\n{STALE[STALE.index(chr(10) * 2) + 1 :]}".encode()
     imported = b"client 0 writer\nclient 1 reader\nimported: 2 operations, 2 clients\n"
     unknown = b"unknown outcomes: 1 took effect, 1 left out\n"
     timed_out = b"client 0 ann\nclient 1 bob\nclient 2 ann, line 2\nimported: 3 operations, 3 clients\n" + unknown
@@ -73,6 +78,7 @@ def cases():
         Case("explain", [program, "explain", example("stale.trace"), "--picture", os.devnull], (1, explained)),
         Case("check", [program, "check", example("stale.jsonl"), "--picture", os.devnull], (1, STALE.encode())),
         Case("check, as JSON", [program, "check", example("stale.jsonl"), "--json"], (1, json_line(STALE_JSON))),
+        Case("check of lines that are written", [program, "check", "-", "--follow"], (1, follow_text), given=stale),
         Case("import", [program, "import", example("put_and_get.jsonl"), os.devnull], (0, imported)),
         Case("import to format 2", [program, "import", "--format", "2", example("put_and_get.jsonl"), os.devnull], (0, imported)),
         Case("import of unknown outcomes", [program, "import", example("timed_out.jsonl"), os.devnull], (0, timed_out)),
@@ -113,7 +119,7 @@ class Refusing:
 
     def run(self, case, kind, number):
         """The status and the output of a test case in which that call fails, and whether there was such a call."""
-        ran = self.ran(case.words, kind, number)
+        ran = self.ran(case.words, kind, number, case.given)
         return (ran.returncode, ran.stdout), b"refused\n" in ran.stderr
 
 

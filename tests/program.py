@@ -25,14 +25,16 @@ from pictures import pictures  # noqa: E402
 from postgresql import postgresql  # noqa: E402
 from ranks import ranks  # noqa: E402
 from redis import redis  # noqa: E402
-from traces import BUILT, LIMITS, ROOT, audited, by_stalling_pipe, check, cops, ended, example, ran, skip, trace  # noqa: E402
+from traces import BUILT, LIMITS, ROOT, VERSION, audited, by_stalling_pipe, check, cops, ended, example, ran, skip, trace  # noqa: E402
 from traces import events, outcomes_of, scripted  # noqa: E402
 from events import scenario  # noqa: E402
+from following import following  # noqa: E402
 from imports import imports  # noqa: E402
 from limits import limits  # noqa: E402
 from named import definition_files, mutations  # noqa: E402
 from outcomes import outcomes  # noqa: E402
 from sessions import idle_clients, listens_here_alone, replies, sent_behind, served, served_deletions, strange_peers  # noqa: E402
+from serving import serving  # noqa: E402
 from terminal import on_a_terminal  # noqa: E402
 
 
@@ -533,11 +535,11 @@ def words():
     for given in (["--help"], *([command, "--help"] for command in ("audit", "explain", "check", "show", "import", "convert", "run", "serve")), ["help"]):
         status, out, err = cops(*given)
         check(f"help of {given}", (status, b"Usage: cops" in out, err), (0, True, b""))
-    for option in (b"--sessions <N>", b"--idle <SECONDS>"):
+    for option in (b"--sessions <N>", b"--idle <SECONDS>", b"--trace <FILE>", b"--announce"):
         check(f"help of {option}", option in cops("serve", "--help")[1], True)
     for given in ("--version", "-V"):
         status, out, err = cops(given)
-        check(f"version, {given}", (status, out.startswith(b"cops 0.1.0 (rattle-kit-"), err), (0, True, b""))
+        check(f"version, {given}", (status, out.startswith(f"cops {VERSION} (rattle-kit-".encode()), err), (0, True, b""))
 
 
 def devices():
@@ -577,8 +579,8 @@ def no_thread():
 for tests in (
     examples, deletions, limits, conversions, long_chain, many_rounds, faults, cut_traces, shown, scenarios, refusals, faulty_scenarios, replaced,
     over_inputs, lines_in_place_of_a_trace, scripts, mixed_scripts, working_clusters, plain_cluster.random_worlds, many_workers, served, served_deletions,
-    replies, strange_peers, sent_behind, idle_clients, listens_here_alone, words, devices, on_a_terminal, generated, long_traces, each_kind, many_suspects,
-    little_memory, no_thread, imports, checks, ranks, outcomes, pictures, redis, postgresql, arbitrate, definition_files, mutations,
+    serving, replies, strange_peers, sent_behind, idle_clients, listens_here_alone, words, devices, on_a_terminal, generated, long_traces, each_kind,
+    many_suspects, little_memory, no_thread, imports, checks, following, ranks, outcomes, pictures, redis, postgresql, arbitrate, definition_files, mutations,
     plain.rows, plain.random_histories, plain.random_cuts, plain.cuts_of_deletions, plain_reader.changed_bytes,
 ):
     tests()

@@ -12,7 +12,7 @@ import sys
 import tempfile
 
 sys.dont_write_bytecode = True
-from traces import ROOT, check, ended, skip  # noqa: E402
+from traces import ROOT, VERSION, check, ended, skip  # noqa: E402
 
 TOOLS = ("sh", "dirname", "find", "mv", "rm", "sed", "sha256sum", "sort", "touch")
 ANSWER = (0, b"accepted: 2 operations, 1 puts\n", b"")
@@ -99,7 +99,7 @@ def is_what_was_proved():
     toolchain = subprocess.run(["rt", "version"], stdout=subprocess.PIPE, text=True).stdout.strip()
     check("the release", list(differences(ROOT, toolchain)), [])
     printed = subprocess.run([program, "--version"], stdout=subprocess.PIPE, text=True).stdout
-    check("the version names the toolchain and the logic", printed, f"cops 0.1.0 ({toolchain_of(ROOT).replace(' logic', ', logic')})\n")
+    check("the version names the toolchain and the logic", printed, f"cops {VERSION} ({toolchain_of(ROOT).replace(' logic', ', logic')})\n")
 
     def changed(name):
         def report(copy):

@@ -101,7 +101,7 @@ def served():
     check("the first session of the example", server.lines("hello 0", "put x 1", "get x", "bye"), lines)
     lines = ["hello from data centre 1, 1 nodes", "got 1 1.0", "clock 1, keys 1, settled 1, held 0", "bye"]
     check("its second session", server.lines("hello 1", "get x", "status 0", "bye"), lines)
-    check("its report", server.ended(), (0, b"accepted: 3 operations, 1 puts\n", b""))
+    check("its report", server.ended(), (0, b"accepted: 3 operations, 1 puts\n", b"the scripts of the scenario are not run\n"))
 
     two = {"data_centres": 2, "splits": ["m"], "clients": [{"at": 0}, {"at": 1}, {"at": 1}]}
     server = Server(json.dumps(two).encode(), 5)

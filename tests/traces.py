@@ -1,6 +1,7 @@
 """Helpers that the tests of the running program share: running it, comparing results, and making traces and scenarios."""
 import json
 import os
+import re
 import resource
 import struct
 import subprocess
@@ -19,6 +20,10 @@ counts = {"passed": 0, "failed": 0, "skipped": 0}
 
 # The program itself, without the script that checks whether it is up to date.
 BUILT = os.path.join(ROOT, "crates", "cops", "out", "cops")
+
+# The version of the program, whose one place is the text that it prints.
+with open(os.path.join(ROOT, "crates", "cops_command_line", "src", "texts.rt"), encoding="utf-8") as texts:
+    VERSION = re.search(r'VERSION: &str = "(\S+) ', texts.read())[1]
 
 # How long a pipe stalls, in seconds.
 STALL = 0.001

@@ -1,8 +1,10 @@
 -- A writer holds what it gained before it was flushed.
 use Rattle.std.proofs.Common.{◌≡◌, ℕ, Bool, true, false, List, Option, None, Some, Result, Ok, Err, refl, subst, sym, ◌∙◌}
+use Rattle.std.specs.Borrow.{Bor}
 use Rattle.std.specs.Global.{Vec}
 use Rattle.std.specs.Prelude.{IfOk, IfSome, IsOkAnd}
 use Rattle.std.specs.Io.KnownBytes.{Appends, Keeps}
+use Rattle.std.specs.Option.{is_some}
 use Rattle.cops_import.specs.Imports.{IsImport}
 use Rattle.cops_import.specs.Words.{reported_text}
 use Rattle.cops_import.specs.declared.outcome.Outcome.{Outcome}
@@ -10,7 +12,9 @@ use Rattle.cops_import.specs.declared.rules.Rules.{Rules}
 use Rattle.cops_audit_commands.specs.declared.audit.Answer.{Answer}
 use Rattle.cops_audit_commands.specs.declared.audit.Answer.TheVariants as answer
 use Rattle.cops_audit_commands.specs.declared.explain.Explained.{Explained}
-use Rattle.cops.specs.Status.{Draws, Gains, HasAnswered, Imports, IsNoTraceText}
+use Rattle.cops_command_line.specs.declared.job.Job.TheVariants.{Serve}
+use Rattle.cops_serve.specs.Serving.{EndsTraced}
+use Rattle.cops.specs.Status.{Draws, EndsWell, Gains, HasAnswered, HasServed, Imports, IsNoTraceText}
 
 kept_text : (old mid new : Option (List ℕ)) (bs : List ℕ) → Appends old mid bs → Keeps mid new → Appends old new bs
 kept_text None mid new bs gained kept = tt
@@ -85,3 +89,12 @@ pub printed : {E : Type 0} (known : Option (List ℕ)) (Writes : List ℕ → An
 printed known Writes given (Err fault) made_old made_new is writes = absurd is.0
 printed None Writes given (Ok e) made_old made_new is writes = tt
 printed (Some bytes) Writes given (Ok e) made_old made_new is writes = (subst (λ (a : Answer). Writes bytes a) is.0 writes, is.1)
+
+-- a serving that ended well, with its trace where that is kept
+pub serves : (known : Option (List ℕ)) (port : ℕ) (scenario : Bor (List ℕ)) (sessions : ℕ) (idle : Option ℕ) (trace : Option (Bor (List ℕ))) (is_announced : Bool) (made_old made_new old new : Option (List ℕ))
+    → IfSome known (λ bytes. HasServed sessions bytes old new) → (is_some trace ≡ false → made_new ≡ made_old)
+    → (is_some trace ≡ true → IfSome known (λ bytes. EndsTraced bytes sessions made_old made_new old new))
+    → IfSome known (λ bytes. EndsWell (Serve port scenario sessions idle trace is_announced) bytes made_old made_new old new)
+serves None port scenario sessions idle trace is_announced made_old made_new old new served same traced = tt
+serves (Some bytes) port scenario sessions idle None is_announced made_old made_new old new served same traced = (served, same refl)
+serves (Some bytes) port scenario sessions idle (Some name) is_announced made_old made_new old new served same traced = traced refl

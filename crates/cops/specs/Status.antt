@@ -7,7 +7,7 @@ use Rattle.std.specs.Option.{is_some}
 use Rattle.cops_types.specs.declared.limits.TheConstants.{MAX_WORKERS}
 use Rattle.cops_types.specs.declared.format.Format.{Format}
 use Rattle.cops_command_line.specs.declared.job.Job.{Job}
-use Rattle.cops_command_line.specs.declared.job.Job.TheVariants.{Audit, SoFar, Explain, Check, Show, Import, Convert, Run, Serve}
+use Rattle.cops_command_line.specs.declared.job.Job.TheVariants.{Audit, SoFar, Explain, Check, Follow, Show, Import, Convert, Run, Serve}
 use Rattle.cops_command_line.specs.declared.job.Wanted.{Wanted}
 use Rattle.cops_trace.specs.declared.fault.TraceFault.{TraceFault}
 use Rattle.cops_trace.specs.declared.fault.TraceFault.TheVariants.{Cut}
@@ -43,7 +43,7 @@ use Rattle.cops_import.specs.declared.outcome.Outcome.{Outcome}
 use Rattle.cops_import.specs.declared.rules.Rules.{Rules}
 use Rattle.cops_import.specs.declared.rules.Versions.{Versions}
 use Rattle.cops_run_command.specs.Running.{EndsWell as HasRun}
-use Rattle.cops_serve.specs.Serving.{IsServed}
+use Rattle.cops_serve.specs.Serving.{EndsTraced, IsServed}
 
 -- the bytes are a trace's text
 abbrev pub IsTraceText : List ℕ → Type 0
@@ -144,7 +144,8 @@ IsUnconverted bytes made_old made_new old new = (e : TraceFault) × Says bytes (
 abbrev pub HasServed : ℕ → List ℕ → Option (List ℕ) → Option (List ℕ) → Type 0
 HasServed sessions bytes old new = (s : AScenario) × IsTextOf bytes s × ((text : List ℕ) × IsServed sessions s text × Appends old new text)
 
--- What holds where a job ends as accepted, for its input and for what the writers gained. A job that makes nothing leaves `made` as it was.
+-- What holds where a job ends as accepted, for its input and for what the writers gained. A job that makes nothing leaves `made` as it was. Of what a
+-- follow prints nothing is said.
 abbrev pub EndsWell : Job → List ℕ → Option (List ℕ) → Option (List ℕ) → Option (List ℕ) → Option (List ℕ) → Type 0
 EndsWell (Audit trace workers) bytes made_old made_new old new = EncodesConvergent bytes × Writes bytes answer.Accepted old new × (made_new ≡ made_old)
 EndsWell (SoFar trace) bytes made_old made_new old new = IsSoundSoFar bytes × WritesSoFar bytes answer.Accepted old new × (made_new ≡ made_old)
@@ -152,12 +153,14 @@ EndsWell (Explain trace wanted) bytes made_old made_new old new =
     EncodesConvergent bytes × Explains (request_of wanted) bytes answer.Accepted made_old made_new old new
 EndsWell (Check lines is_ranked wanted) bytes made_old made_new old new =
     DescribesConvergent is_ranked bytes × Checks is_ranked (request_of wanted) bytes answer.Accepted made_old made_new old new
+EndsWell (Follow lines is_ranked) bytes made_old made_new old new = made_new ≡ made_old
 EndsWell (Show trace) bytes made_old made_new old new = IsTraceText bytes × Shows bytes (number Accepted) old new × (made_new ≡ made_old)
 EndsWell (Import lines trace format is_ranked) bytes made_old made_new old new =
     (rules : Rules) × AreRules format is_ranked rules × Imports rules bytes made_old made_new old new
 EndsWell (Convert trace made) bytes made_old made_new old new = HasConverted bytes made_old made_new old new
 EndsWell (Run scenario trace) bytes made_old made_new old new = HasRun bytes made_old made_new old new
-EndsWell (Serve port scenario sessions idle) bytes made_old made_new old new = HasServed sessions bytes old new × (made_new ≡ made_old)
+EndsWell (Serve port scenario sessions idle None is_announced) bytes made_old made_new old new = HasServed sessions bytes old new × (made_new ≡ made_old)
+EndsWell (Serve port scenario sessions idle (Some trace) is_announced) bytes made_old made_new old new = EndsTraced bytes sessions made_old made_new old new
 
 -- what holds where a job ends as refused, which only audits and explanations do
 abbrev pub EndsRefused : Job → List ℕ → Option (List ℕ) → Option (List ℕ) → Option (List ℕ) → Option (List ℕ) → Type 0
@@ -166,6 +169,7 @@ EndsRefused (SoFar trace) bytes made_old made_new old new = WritesSoFar bytes an
 EndsRefused (Explain trace wanted) bytes made_old made_new old new = Explains (request_of wanted) bytes answer.Refused made_old made_new old new
 EndsRefused (Check lines is_ranked wanted) bytes made_old made_new old new =
     Checks is_ranked (request_of wanted) bytes answer.Refused made_old made_new old new
+EndsRefused (Follow lines is_ranked) bytes made_old made_new old new = made_new ≡ made_old
 EndsRefused job bytes made_old made_new old new = ⊥
 
 -- What holds where a job ends as faulty: the bytes are no trace's text, or no scenario's, or one of their lines is wrong; a cut is no fault for a
@@ -176,12 +180,13 @@ EndsFaulty (SoFar trace) bytes made_old made_new old new = HasOtherFault bytes �
 EndsFaulty (Explain trace wanted) bytes made_old made_new old new = IsNoTraceText bytes × (made_new ≡ made_old)
 EndsFaulty (Check lines is_ranked wanted) bytes made_old made_new old new =
     WritesChecked is_ranked (request_of wanted) bytes answer.Faulty old new × (made_new ≡ made_old)
+EndsFaulty (Follow lines is_ranked) bytes made_old made_new old new = made_new ≡ made_old
 EndsFaulty (Show trace) bytes made_old made_new old new = IsNoTraceText bytes × Shows bytes (number Faulty) old new × (made_new ≡ made_old)
 EndsFaulty (Import lines trace format is_ranked) bytes made_old made_new old new =
     (rules : Rules) × AreRules format is_ranked rules × StopsAtLine rules bytes made_old made_new old new
 EndsFaulty (Convert trace made) bytes made_old made_new old new = IsUnconverted bytes made_old made_new old new
 EndsFaulty (Run scenario trace) bytes made_old made_new old new = IsNoScenario bytes × Keeps made_old made_new
-EndsFaulty (Serve port scenario sessions idle) bytes made_old made_new old new = IsNoScenario bytes × (made_new ≡ made_old)
+EndsFaulty (Serve port scenario sessions idle trace is_announced) bytes made_old made_new old new = IsNoScenario bytes × (made_new ≡ made_old)
 
 -- the number of workers of an audit is allowed
 abbrev pub MayWork : Job → Type 0

@@ -1,5 +1,5 @@
 //! The commands over any readers and writers. The contract of each says what the writers gained.
-ghost use Rattle.std.specs.Prelude.{◌≡◌, ◌≢◌, ◌≤◌, ◌⊎◌, ℕ, true, IfSome, IsOkAnd, Ok, Err};
+ghost use Rattle.std.specs.Prelude.{◌≡◌, ◌≢◌, ◌≤◌, ◌⊎◌, ℕ, true, false, IfSome, IsOkAnd, Ok, Err};
 ghost use Rattle.std.specs.Io.KnownBytes.{Appends, Keeps};
 ghost use Rattle.cops_types.specs.declared.limits.TheConstants.{MAX_WORKERS};
 ghost use Rattle.cops_types.specs.Counted.{inner};
@@ -16,22 +16,23 @@ ghost use Rattle.cops_scenario.specs.File.{IsNoScenario};
 ghost use Rattle.cops_command.specs.Status.{number, number as status_number};
 ghost use Rattle.cops_command.specs.declared.status.Status.TheVariants.{Accepted, Failed, Faulty, NoMemory, Refused};
 ghost use Rattle.cops_run_command.specs.Running.{EndsWell as HasRun};
-ghost use Rattle.cops.specs.Status.{Checks, EndsFaulty, EndsRefused, EndsWell, Explains, HasAnswered, Gains, HasConverted, HasServed, Imports, IsFaultyAnswer, IsReadOnce, IsSurveyed, IsUnconverted, MayWork, PrintsLine, StopsAtLine, IsNoTraceText, HasOtherFault, IsTraceText, drawn_text};
+ghost use Rattle.cops_serve.specs.Serving.{EndsTraced};
+ghost use Rattle.cops.specs.Status.{Checks, EndsFaulty, EndsRefused, EndsWell, Explains, HasAnswered, Gains, HasConverted, HasServed, Imports, IsFaultyAnswer, IsReadOnce, IsSurveyed, IsUnconverted, MayWork, PrintsLine, StopsAtLine, IsNoTraceText, HasOtherFault, IsTraceText, drawn_text, request_of};
 
 use crate::output::Output;
 use cops_audit_commands::{
     Answer, Explained, Request, StreamFault, audit_so_far, audit_stream, convert_stream,
     converted_line, explain_stream, show_stream,
 };
-use cops_check::{CheckFault, check_stream};
+use cops_check::{CheckFault, Followed, check_stream, follow_stream};
 use cops_command::{Status, print};
-use cops_command_line::Job;
+use cops_command_line::{Job, Wanted};
 use cops_import::{
     Expected, ImportFault, Imported, JsonLineFault, Rules, Surveyed, Unimported, faulty_line,
     import_stream,
 };
 use cops_run_command::{Streamed, run_stream};
-use cops_serve::serve_stream;
+use cops_serve::{Door, serve_stream};
 use cops_trace::{ConvertFault, TraceFault, fault_line};
 use cops_types::{Counted, Memory, OpenGate, write_text};
 use std::alloc::Global;
@@ -39,6 +40,7 @@ use std::io::{Read, Write};
 use std::net::{Net, TcpListener, TcpStream};
 use std::sync::Wait;
 use std::thread::Threads;
+use std::time::Clock;
 
 /// The line for out of memory.
 const NO_MEMORY: &[u8] = b"failed: memory\n";
@@ -71,9 +73,9 @@ pub fn command<R, I, T, W, E>(
     outputs: Outputs<T, W, E>,
 ) -> Ended<T, W, E>
 where
-    R: AllocGlobal + Threads + Wait + Sync,
+    R: AllocGlobal + Threads + Wait + Sync + Clock,
     R: Net<Listener = TcpListener, Stream = TcpStream>,
-    I: Read,
+    I: Read + Send,
     T: Write + Output + Send + Drop,
     W: Write + Drop,
     E: Write + Drop,
@@ -106,9 +108,9 @@ fn reading_once<R, I, T, W, E>(
     outputs: Outputs<T, W, E>,
 ) -> Ended<T, W, E>
 where
-    R: AllocGlobal + Threads + Wait + Sync,
+    R: AllocGlobal + Threads + Wait + Sync + Clock,
     R: Net<Listener = TcpListener, Stream = TcpStream>,
-    I: Read,
+    I: Read + Send,
     T: Write + Output + Send + Drop,
     W: Write + Drop,
     E: Write + Drop,
@@ -123,26 +125,13 @@ where
     match job {
         Job::Audit { workers, .. } => audit(rt, workers, input, outputs),
         Job::SoFar { .. } => so_far(rt.alloc(), input, outputs),
-        Job::Explain { wanted, .. } => {
-            let request = Request {
-                faults: wanted.faults,
-                is_drawn: wanted.picture.is_some(),
-                is_json: wanted.is_json,
-            };
-            explain(rt.alloc(), request, input, outputs)
-        }
+        Job::Explain { wanted, .. } => explain(rt.alloc(), request(wanted), input, outputs),
         Job::Check {
             is_ranked,
             wanted,
             ..
-        } => {
-            let request = Request {
-                faults: wanted.faults,
-                is_drawn: wanted.picture.is_some(),
-                is_json: wanted.is_json,
-            };
-            check(rt.alloc(), is_ranked, request, input, outputs)
-        }
+        } => check(rt.alloc(), is_ranked, request(wanted), input, outputs),
+        Job::Follow { is_ranked, .. } => follow(rt, is_ranked, input, outputs),
         Job::Show { .. } => show(rt.alloc(), input, outputs),
         Job::Import { .. } => unreachable!(),
         Job::Convert { .. } => convert(rt.alloc(), input, outputs),
@@ -151,8 +140,30 @@ where
             port,
             sessions,
             idle,
+            trace,
+            is_announced,
             ..
-        } => serve(rt, port, sessions, idle, input, outputs),
+        } => {
+            let door = Door {
+                port,
+                sessions,
+                idle,
+                is_announced,
+                keeps_trace: trace.is_some(),
+            };
+            serve(rt, door, input, outputs)
+        }
+    }
+}
+
+/// The explanation that the words want.
+fn request(wanted: Wanted<'_>) -> Request
+    ensures { result ≡ request_of wanted.entry }
+{
+    Request {
+        faults: wanted.faults,
+        is_drawn: wanted.picture.is_some(),
+        is_json: wanted.is_json,
     }
 }
 
@@ -684,30 +695,61 @@ where
     }
 }
 
-/// Serves on a port `sessions` sessions of clients of the cluster of the scenario in the input. A client may be idle
-/// for `idle` seconds, if a number is given. The status is accepted only for a scenario with a report on this number of
-/// sessions, whose history is accepted, and which was printed.
+/// Judges the lines of the input while they are written, and prints the state of their history when it changes. It makes
+/// nothing.
+fn follow<R, I, T, W, E>(
+    rt: &R,
+    is_ranked: bool,
+    input: &mut Counted<I>,
+    outputs: Outputs<T, W, E>,
+) -> Ended<T, W, E>
+where
+    R: AllocGlobal + Threads + Wait + Sync + Clock,
+    I: Read + Send,
+    W: Write + Drop,
+    E: Write + Drop,
+    ensures made { result.outputs.made ≡ outputs.made }
+{
+    let Outputs { made, out, errors } = outputs;
+    let followed = follow_stream(rt, is_ranked, &mut *input, out, errors);
+    let Followed {
+        status,
+        out,
+        mut errors,
+    } = followed;
+    let status = status_of(&mut errors, status);
+    Ended {
+        status,
+        outputs: Outputs { made, out, errors },
+    }
+}
+
+/// Serves sessions of clients of the cluster of the scenario in the input, as the door says, and writes the trace of what
+/// they saw if it is kept. The status is accepted only for a scenario with a report on this number of sessions, whose
+/// history is accepted, and which was printed.
 fn serve<R, I, T, W, E>(
     rt: &R,
-    port: u16,
-    sessions: u16,
-    idle: Option<u16>,
+    door: Door,
     input: &mut Counted<I>,
     outputs: Outputs<T, W, E>,
 ) -> Ended<T, W, E>
 where
     R: Net<Listener = TcpListener, Stream = TcpStream> + AllocGlobal + Wait,
     I: Read,
+    T: Write,
     W: Write,
     E: Write,
     ensures served { result.status ≡ number Accepted → IfSome (I.remaining (inner input.old)) (λ bytes.
-        HasServed sessions bytes (W.contents (inner outputs.out)) (W.contents (inner result.outputs.out))) }
+        HasServed door.sessions bytes (W.contents (inner outputs.out)) (W.contents (inner result.outputs.out))) }
     ensures refused { result.status ≡ number Refused → IfSome (I.remaining (inner input.old)) (λ _. ⊥) }
     ensures faulty { result.status ≡ number Faulty → IfSome (I.remaining (inner input.old)) IsNoScenario }
-    ensures made { result.outputs.made ≡ outputs.made }
+    ensures unwritten { result.status ≡ number Faulty → result.outputs.made ≡ outputs.made }
+    ensures unkept { door.keeps_trace ≡ false → result.outputs.made ≡ outputs.made }
+    ensures traced { door.keeps_trace ≡ true → result.status ≡ number Accepted → IfSome (I.remaining (inner input.old)) (λ bytes. EndsTraced bytes door.sessions
+        (T.contents (inner outputs.made)) (T.contents (inner result.outputs.made)) (W.contents (inner outputs.out)) (W.contents (inner result.outputs.out))) }
 {
     let Outputs {
-        made,
+        mut made,
         mut out,
         mut errors,
     } = outputs;
@@ -715,9 +757,8 @@ where
         rt,
         rt.alloc(),
         input,
-        port,
-        sessions,
-        idle,
+        door,
+        &mut made,
         &mut out,
         &mut errors,
     );

@@ -1,6 +1,6 @@
 //! The input of a command: a file, or standard input. No clause says what a file contains.
 use std::fs::{File, Metadata};
-use std::io::{Input, Read};
+use std::io::{ErrorKind, Input, Read};
 use std::os::unix::fs::MetadataExt;
 use std::rt::Files;
 use std::{fs, io};
@@ -26,6 +26,14 @@ pub fn plain_file(metadata: io::Result<Metadata>) -> Option<Plain> {
             inode: metadata.ino(),
         }),
         _ => None,
+    }
+}
+
+/// Whether it is a plain file, which can be read twice, and may grow.
+pub fn is_plain(file: &File) -> bool {
+    match file.metadata() {
+        Ok(metadata) => metadata.is_file(),
+        Err(_) => false,
     }
 }
 
@@ -68,6 +76,33 @@ impl<S: Read> Read for Source<S> {
         match self {
             Source::File(file) => file.read(buf),
             Source::Standard(input) => input.read(buf),
+        }
+    }
+}
+
+/// An input that is still being written. The end of a plain file that is no standard input may move: a read there fails
+/// as one that would block.
+#[derive(Drop)]
+pub struct Growing<S> {
+    source: Source<S>,
+    may_grow: bool,
+}
+
+impl<S: Read> Growing<S> {
+    pub fn new(source: Source<S>) -> Growing<S> {
+        let may_grow = match &source {
+            Source::File(file) => is_plain(file),
+            Source::Standard(_) => false,
+        };
+        Growing { source, may_grow }
+    }
+}
+
+impl<S: Read> Read for Growing<S> {
+    fn read(&mut self, buf: &mut [u8]) -> io::Result<usize> {
+        match self.source.read(buf) {
+            Ok(0) if self.may_grow => Err(io::Error::from(ErrorKind::WouldBlock)),
+            answer => answer,
         }
     }
 }

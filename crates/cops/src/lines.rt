@@ -63,14 +63,6 @@ fn not_created(fault: io::Error) -> NoLines {
     }
 }
 
-/// Whether it is a plain file, which can be read twice.
-pub fn is_plain(file: &File) -> bool {
-    match file.metadata() {
-        Ok(metadata) => metadata.is_file(),
-        Err(_) => false,
-    }
-}
-
 /// The file at its beginning again. The error is `Read`, where that fails.
 pub fn rewound(mut file: File) -> Result<File, NoLines> {
     match file.rewind() {

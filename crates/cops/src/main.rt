@@ -14,8 +14,8 @@ mod output;
 mod progress;
 
 use crate::command::{Ended, Outputs, command};
-use crate::input::{Source, plain_output};
-use crate::lines::{NoLines, copied, created, is_plain, rewound};
+use crate::input::{Growing, Source, is_plain, plain_output};
+use crate::lines::{NoLines, copied, created, rewound};
 use crate::output::{DraftFile, MadeFile, Printed, RecreatedFile};
 use crate::progress::{Cleared, Reading, Watched, begun, remove};
 use cops_command::Status;
@@ -104,6 +104,7 @@ fn input_of<'a>(job: Job<'a>) -> &'a str {
         Job::SoFar { trace } => trace,
         Job::Explain { trace, .. } => trace,
         Job::Check { lines, .. } => lines,
+        Job::Follow { lines, .. } => lines,
         Job::Show { trace } => trace,
         Job::Import { lines, .. } => lines,
         Job::Convert { trace, .. } => trace,
@@ -120,6 +121,7 @@ fn output_of<'a>(job: Job<'a>) -> Option<&'a str> {
         Job::Import { trace, .. } => Some(trace),
         Job::Convert { new, .. } => Some(new),
         Job::Run { trace, .. } => Some(trace),
+        Job::Serve { trace, .. } => trace,
         _ => None,
     }
 }
@@ -163,11 +165,12 @@ where
 }
 
 /// Opens what the job names, and runs the job.
-fn perform<R, E>(rt: &R, job: Job<'_>, errors: E, process: u32) -> u8
+fn perform<R, S, E>(rt: &R, job: Job<'_>, errors: E, process: u32) -> u8
 where
-    R: Files<File = File> + Input + Print + Eprint + AllocGlobal + Env,
+    R: Files<File = File> + Input<Reader = S> + Print + Eprint + AllocGlobal + Env,
     R: Threads + Wait + Sync + Clock,
     R: Net<Listener = TcpListener, Stream = TcpStream>,
+    S: Read + Send + Drop,
     E: Write + IsTerminal + Copy + Drop,
 {
     let Ok(source) = Source::open(rt, input_of(job)) else {
@@ -182,6 +185,9 @@ where
     }
     if let Job::Import { is_ranked, .. } = job {
         return perform_import(rt, (job, is_ranked), source, target, (errors, process));
+    }
+    if let Job::Follow { .. } = job {
+        return perform_follow(rt, job, source, errors);
     }
     match made_at_once(rt, job, target) {
         Ok(made) => perform_over(rt, job, source, made, errors),
@@ -219,7 +225,7 @@ where
     R: Files<File = File> + Print + Eprint + AllocGlobal,
     R: Threads + Wait + Sync + Clock,
     R: Net<Listener = TcpListener, Stream = TcpStream>,
-    S: Read + Drop,
+    S: Read + Send + Drop,
     E: Write + IsTerminal + Copy + Drop,
 {
     let is_read_whole = matches!(
@@ -242,6 +248,21 @@ where
     if reads_trace && input.get_ref().looks_like_lines() {
         let _ = eprintln!(rt; "{LOOKS_LIKE_LINES}");
     }
+    status
+}
+
+/// Runs a check of lines that are still being written.
+fn perform_follow<R, S, E>(rt: &R, job: Job<'_>, source: Source<S>, errors: E) -> u8
+where
+    R: Print + Eprint + AllocGlobal,
+    R: Threads + Wait + Sync + Clock,
+    R: Net<Listener = TcpListener, Stream = TcpStream>,
+    S: Read + Send + Drop,
+    E: Write + Copy + Drop,
+{
+    let mut input = Counted::new(Growing::new(source));
+    let outputs = outputs(rt, MadeFile::Nothing, errors, None);
+    let Ended { status, .. } = command(rt, job, unsurveyed(rt), &mut input, outputs);
     status
 }
 
@@ -268,7 +289,7 @@ where
     R: Files<File = File> + Print + Eprint + AllocGlobal + Env,
     R: Threads + Wait + Sync + Clock,
     R: Net<Listener = TcpListener, Stream = TcpStream>,
-    S: Read + Drop,
+    S: Read + Send + Drop,
     E: Write + IsTerminal + Copy + Drop,
 {
     let (job, is_ranked) = wanted;
@@ -396,7 +417,7 @@ fn no_job<R: Print + Eprint>(rt: &R, fault: cops_command_line::LineFault) -> u8 
 }
 
 /// Runs what the words after the program's name ask for. `is_terminal` says whether standard input is a terminal.
-fn run<R, E>(
+fn run<R, S, E>(
     rt: &R,
     arguments: &[String],
     is_terminal: bool,
@@ -404,9 +425,10 @@ fn run<R, E>(
     process: u32,
 ) -> Result<u8, AllocError>
 where
-    R: Files<File = File> + Input + Print + Eprint + AllocGlobal + Env,
+    R: Files<File = File> + Input<Reader = S> + Print + Eprint + AllocGlobal + Env,
     R: Threads + Wait + Sync + Clock,
     R: Net<Listener = TcpListener, Stream = TcpStream>,
+    S: Read + Send + Drop,
     E: Write + IsTerminal + Copy + Drop,
 {
     let words: Vec<&str> = arguments

@@ -1,7 +1,8 @@
 -- What a check says of lines, and what it writes.
-use Rattle.std.specs.Prelude.{◌≡◌, ◌⊎◌, ℕ, Bool, true, false, List, ◌++◌, map, Option, Some, None}
+use Rattle.std.specs.Prelude.{◌≡◌, ◌⊎◌, ℕ, Bool, true, false, List, [], ◌++◌, map, Option, Some, None, Result, Ok, Err}
 use Rattle.std.specs.Global.{Vec}
 use Rattle.std.specs.Io.KnownBytes.{Appends}
+use Rattle.cops_types.specs.Counted.{inner}
 use Rattle.cops_types.specs.Convergence.{IsCausallyConvergent}
 use Rattle.cops_types.specs.declared.format.Format.TheVariants.{Two}
 use Rattle.cops_types.specs.declared.selection.Selection.{Selection}
@@ -12,11 +13,13 @@ use Rattle.cops_explain.specs.declared.naming.Naming.TheVariants.{Lines}
 use Rattle.cops_explain_json.specs.Faulty.{faulty_json}
 use Rattle.cops_explain_json.specs.Objects.{line_text}
 use Rattle.cops_import.specs.Faults.{IsWrongLine}
+use Rattle.cops_import.specs.Imports.{IsImport}
 use Rattle.cops_import.specs.Line.{AreRead}
 use Rattle.cops_import.specs.Lines.{LinesGive, lines, names_of, ops_of, trace_of}
 use Rattle.cops_import.specs.Words.{faulty_line, words_of}
 use Rattle.cops_import.specs.declared.fault.JsonLineFault.{JsonLineFault}
 use Rattle.cops_import.specs.Outcomes.{outcome_counts, outcomes_of, took_effect}
+use Rattle.cops_import.specs.declared.imported.Imported.{Imported}
 use Rattle.cops_import.specs.declared.outcome.Outcome.{Outcome}
 use Rattle.cops_import.specs.declared.reported.Reported.{Reported}
 use Rattle.cops_import.specs.declared.rules.Rules.{Rules}
@@ -24,18 +27,24 @@ use Rattle.cops_audit_commands.specs.declared.audit.Answer.{Answer}
 use Rattle.cops_audit_commands.specs.declared.audit.Answer.TheVariants.{Faulty}
 use Rattle.cops_audit_commands.specs.declared.explain.Request.{Request}
 use Rattle.cops_audit_commands.specs.Explain.{IsDrawing, IsExplanation}
+use Rattle.cops_check.specs.declared.state.State.{State}
+use Rattle.cops_check.specs.declared.state.State.TheVariants.{Clean}
 use Rattle.cops_check.specs.Numbers.{numbers_from, op_lines, trace_lines}
 
 -- the names of the clients of puts of unknown outcome that took effect
 abbrev pub own_names : List Outcome → List (List ℕ)
 own_names unknown = map (λ o. o.name) (took_effect unknown)
 
+-- for each client of this trace the numbers of the lines of its operations, where these are the puts of unknown outcome
+abbrev pub lines_in : List ℕ → List Outcome → ATrace → List (List ℕ)
+lines_in bytes unknown trace = op_lines trace.clients (map (λ r. r.client) trace.records) (trace_lines (numbers_from 1 (lines bytes)) unknown)
+
 -- what the lines of a text call the operations of this trace, whose clients have these names, and in which these puts of unknown outcome took effect or
 -- are left out
 abbrev pub naming_in : List ℕ → List (List ℕ) → List Outcome → ATrace → Naming
 naming_in bytes names unknown trace = Lines (record {
   names = names ++ own_names unknown;
-  lines = op_lines trace.clients (map (λ r. r.client) trace.records) (trace_lines (numbers_from 1 (lines bytes)) unknown);
+  lines = lines_in bytes unknown trace;
   outcomes = outcome_counts unknown;
 })
 
@@ -56,6 +65,12 @@ pub record Describes (rules : Rules) (bytes : List ℕ) (given : List Reported) 
 abbrev pub wrong_text : Bool → ℕ → JsonLineFault → List ℕ
 wrong_text false number fault = faulty_line number fault
 wrong_text true number fault = line_text (faulty_json (words_of fault) (Some number))
+
+-- the text was imported by these rules to memory, or a line of it is wrong
+abbrev pub IsImported : Rules → List ℕ → Result (Imported (Vec ℕ)) (ℕ × JsonLineFault) → Type 0
+IsImported rules bytes (Ok imported) =
+    IsImport rules bytes (Some []) (Some (inner imported.writer).items) imported.names imported.unknown.items imported.operations
+IsImported rules bytes (Err wrong) = IsWrongLine rules bytes wrong.0 wrong.1
 
 -- for a text of lines that are read so: the explanation of the trace that they describe, otherwise the first wrong line
 abbrev pub SaysBy : Rules → Request → List ℕ → Answer → List ℕ → Type 0
@@ -86,6 +101,11 @@ pub record DescribesConvergent (is_ranked : Bool) (bytes : List ℕ) : Type 0 wh
   pub given : List Reported
   pub describes : Describes rules bytes given
   pub convergent : IsCausallyConvergent (sessions_of (trace_of rules.format given))
+
+-- of a state only this is said: where it is clean, the lines describe one history, and it is causally convergent
+abbrev pub IsStateOf : Bool → List ℕ → State → Type 0
+IsStateOf is_ranked bytes Clean = DescribesConvergent is_ranked bytes
+IsStateOf is_ranked bytes _ = Unit {0}
 
 -- the writer gained the whole text
 abbrev pub WritesChecked : Bool → Request → List ℕ → Answer → Option (List ℕ) → Option (List ℕ) → Type 0

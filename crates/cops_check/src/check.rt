@@ -7,7 +7,7 @@ ghost use Rattle.cops_import.specs.declared.rules.Rules.{Rules as ARules};
 ghost use Rattle.cops_import.specs.Imports.{IsImport};
 ghost use Rattle.cops_import.specs.Line.{AreRead};
 ghost use Rattle.cops_audit_commands.specs.declared.audit.Answer.TheVariants as answer;
-ghost use Rattle.cops_check.specs.Check.{CheckSays, CheckSaysJson, DescribesConvergent, DrawingSays, DrawsBy, SaysBy, WritesChecked, WritesPrefixChecked, naming_in, own_names, wrong_text};
+ghost use Rattle.cops_check.specs.Check.{AreRules, CheckSays, CheckSaysJson, DescribesConvergent, DrawingSays, DrawsBy, IsImported, SaysBy, WritesChecked, WritesPrefixChecked, lines_in, naming_in, own_names, wrong_text};
 
 use crate::fault::CheckFault;
 use crate::numbers::{line_numbers, op_lines, trace_lines};
@@ -56,6 +56,33 @@ fn add_own(alloc: Global, copies: &mut Vec<Vec<u8>>, unknown: &[Outcome]) -> Res
     Ok(())
 }
 
+/// The names of the clients of a trace: of those with these names, and then of puts of unknown outcome that took effect.
+pub(crate) fn names_of(
+    alloc: Global,
+    names: &Names,
+    unknown: &[Outcome],
+) -> Result<Vec<Vec<u8>>, AllocError>
+    ensures { IfOk result (λ copies. map (λ name. name.items) copies.items ≡ names.now ++ own_names unknown.now) }
+{
+    let mut copies = names_in(alloc, names)?;
+    add_own(alloc, &mut copies, unknown)?;
+    Ok(copies)
+}
+
+/// For each client of a trace the numbers of the lines of its operations, where these are the puts of unknown outcome.
+pub(crate) fn lines_in(
+    alloc: Global,
+    bytes: &[u8],
+    unknown: &[Outcome],
+    trace: &Trace,
+) -> Result<Vec<Vec<u64>>, AllocError>
+    ensures { IfOk result (λ table. map (λ numbers. numbers.items) table.items ≡ lines_in bytes.now unknown.now trace.now) }
+{
+    let numbers = line_numbers(alloc, bytes)?;
+    let numbers = trace_lines(alloc, &numbers, unknown)?;
+    op_lines(alloc, trace.clients(), trace.arrivals(), &numbers)
+}
+
 /// What the lines of a text call the operations of their trace, whose clients have these names, and in which these puts of
 /// unknown outcome took effect or are left out.
 fn naming_of(
@@ -67,11 +94,8 @@ fn naming_of(
 ) -> Result<Naming, AllocError>
     ensures { IfOk result (λ naming. naming ≡ naming_in bytes.now names.now unknown.now trace.now) }
 {
-    let numbers = line_numbers(alloc, bytes)?;
-    let numbers = trace_lines(alloc, &numbers, unknown)?;
-    let lines = op_lines(alloc, trace.clients(), trace.arrivals(), &numbers)?;
-    let mut copies = names_in(alloc, names)?;
-    add_own(alloc, &mut copies, unknown)?;
+    let lines = lines_in(alloc, bytes, unknown, trace)?;
+    let copies = names_of(alloc, names, unknown)?;
     let outcomes = outcome_counts(unknown);
     Ok(Naming::Lines(LineNames::new(copies, lines, outcomes)))
 }
@@ -125,6 +149,30 @@ fn surveyed(alloc: Global, bytes: &[u8], is_ranked: bool) -> Result<Surveyed, Ch
     }
 }
 
+/// The import of lines to memory, with their versions by their ranks or as they stand, or the first wrong line.
+pub(crate) fn imported(
+    alloc: Global,
+    bytes: &[u8],
+    is_ranked: bool,
+) -> Result<Result<Imported<Vec<u8>>, (u64, JsonLineFault)>, CheckFault>
+    ensures imported { IfOk result (λ found. (rules : ARules) × AreRules is_ranked rules × IsImported rules bytes.now found) }
+    ensures faults { IfErr result (λ e. (e ≡ CheckFault.Memory) ⊎ (e ≡ CheckFault.Changed)) }
+{
+    let Surveyed { expected, versions } = surveyed(alloc, bytes, is_ranked)?;
+    let rules = Rules {
+        format: Format::Two,
+        versions,
+    };
+    let trace = Counted::new(Vec::new(alloc));
+    match import_stream(alloc, rules, expected, &mut Counted::new(bytes), trace) {
+        Ok(imported) => Ok(Ok(imported)),
+        Err(unimported) => match unimported.fault {
+            ImportFault::Line { number, fault } => Ok(Err((number, fault))),
+            fault => Err(CheckFault::of_import(fault)),
+        },
+    }
+}
+
 /// What is said of a wrong line, in words or as JSON.
 fn wrong_text(
     alloc: Global,
@@ -144,7 +192,7 @@ fn wrong_text(
 }
 
 /// What is said of the lines of a text, with the picture that is asked for.
-fn checked(
+pub(crate) fn checked(
     alloc: Global,
     bytes: &[u8],
     is_ranked: bool,
@@ -155,24 +203,15 @@ fn checked(
     ensures none { request.is_drawn ≡ false → IfOk result (λ reported. reported.explained.picture ≡ None) }
     ensures faults { IfErr result (λ e. (e ≡ CheckFault.Memory) ⊎ (e ≡ CheckFault.Changed)) }
 {
-    let Surveyed { expected, versions } = surveyed(alloc, bytes, is_ranked)?;
-    let rules = Rules {
-        format: Format::Two,
-        versions,
-    };
-    let trace = Counted::new(Vec::new(alloc));
-    match import_stream(alloc, rules, expected, &mut Counted::new(bytes), trace) {
+    match imported(alloc, bytes, is_ranked)? {
         Ok(imported) => judged(alloc, bytes, imported, request),
-        Err(unimported) => match unimported.fault {
-            ImportFault::Line { number, fault } => Ok(ExplainedText {
-                explained: Explained {
-                    answer: Answer::Faulty,
-                    picture: None,
-                },
-                text: wrong_text(alloc, number, fault, request.is_json)?,
-            }),
-            fault => Err(CheckFault::of_import(fault)),
-        },
+        Err((number, fault)) => Ok(ExplainedText {
+            explained: Explained {
+                answer: Answer::Faulty,
+                picture: None,
+            },
+            text: wrong_text(alloc, number, fault, request.is_json)?,
+        }),
     }
 }
 

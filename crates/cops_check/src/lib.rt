@@ -6,7 +6,11 @@
 
 mod check;
 mod fault;
+mod following;
 mod numbers;
+mod state;
 
 pub use check::{check_bytes, check_stream};
 pub use fault::CheckFault;
+pub use following::{Followed, follow_stream};
+pub use state::{State, state_of};

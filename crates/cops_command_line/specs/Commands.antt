@@ -60,6 +60,10 @@ json_option = flag_option (codes "json")
 abbrev pub rank_option : Rule
 rank_option = flag_option (codes "rank")
 
+-- `--follow`, which may be left out and takes no value
+abbrev pub follow_option : Rule
+follow_option = flag_option (codes "follow")
+
 -- `--format N`, which may be left out and takes 1 or 2
 abbrev pub format_option : Rule
 format_option = number_option (codes "format") 2
@@ -76,6 +80,14 @@ sessions_option = number_option (codes "sessions") MAX_SESSIONS
 abbrev pub idle_option : Rule
 idle_option = number_option (codes "idle") MAX_IDLE
 
+-- `--trace FILE`, which may be left out
+abbrev pub trace_option : Rule
+trace_option = value_option (codes "trace")
+
+-- `--announce`, which may be left out and takes no value
+abbrev pub announce_option : Rule
+announce_option = flag_option (codes "announce")
+
 -- `audit TRACE`, with `--workers N` or without it, and with `--so-far` or without it
 abbrev pub audit_app : App
 audit_app = with_rule (with_rule (with_rule (new_app (codes "audit")) (positional (codes "trace"))) workers_option) so_far_option
@@ -88,9 +100,9 @@ explaining app = with_rule (with_rule (with_rule (with_rule app all_option) faul
 abbrev pub explain_app : App
 explain_app = explaining (with_rule (new_app (codes "explain")) (positional (codes "trace")))
 
--- `check LINES`, with `--rank` or without it
+-- `check LINES`, with `--rank` and `--follow` or without them
 abbrev pub check_app : App
-check_app = with_rule (explaining (with_rule (new_app (codes "check")) (positional (codes "lines")))) rank_option
+check_app = with_rule (with_rule (explaining (with_rule (new_app (codes "check")) (positional (codes "lines")))) rank_option) follow_option
 
 -- `show TRACE`
 abbrev pub show_app : App
@@ -109,9 +121,13 @@ convert_app = with_rule (with_rule (new_app (codes "convert")) (positional (code
 abbrev pub run_app : App
 run_app = with_rule (with_rule (new_app (codes "run")) (positional (codes "scenario"))) (positional (codes "trace"))
 
--- `serve PORT SCENARIO`, with `--sessions N` or without it, and with `--idle SECONDS` or without it
+-- `serve PORT SCENARIO`
+abbrev pub port_app : App
+port_app = with_rule (with_rule (new_app (codes "serve")) port_argument) (positional (codes "scenario"))
+
+-- with `--sessions N`, `--idle SECONDS`, `--trace FILE` and `--announce` or without them
 abbrev pub serve_app : App
-serve_app = with_rule (with_rule (with_rule (with_rule (new_app (codes "serve")) port_argument) (positional (codes "scenario"))) sessions_option) idle_option
+serve_app = with_rule (with_rule (with_rule (with_rule port_app sessions_option) idle_option) trace_option) announce_option
 
 -- with a version, and with a required subcommand as the first of the words
 abbrev pub versioned : App → App

@@ -1,5 +1,6 @@
 -- The job that words ask for, and what it means that they ask for none.
 use Rattle.std.specs.Prelude.{◌≡◌, ◌≢◌, ◌≤◌, ◌↔◌, ℕ, List, [], ◌∷◌, codes, Option, Some, None, option_map, Bool, IsTrue}
+use Rattle.std.specs.Borrow.{Bor}
 use Rattle.std.specs.Str.Parse.{IsNumeral, digits_value, without_leading_plus}
 use Rattle.clap.specs.Words.{Row, Text, first_of, subcommand_of, fault_of, IsAmong}
 use Rattle.clap.specs.declared.error.kind.ErrorKind.{ErrorKind}
@@ -12,7 +13,7 @@ use Rattle.cops_types.specs.declared.format.Format.{Format}
 use Rattle.cops_types.specs.Format.{number_of}
 use Rattle.cops_command_line.specs.declared.job.Wanted.{Wanted}
 use Rattle.cops_command_line.specs.declared.job.Job.{Job}
-use Rattle.cops_command_line.specs.declared.job.Job.TheVariants.{Audit, SoFar, Explain, Check, Show, Import, Convert, Run, Serve}
+use Rattle.cops_command_line.specs.declared.job.Job.TheVariants.{Audit, SoFar, Explain, Check, Follow, Show, Import, Convert, Run, Serve}
 use Rattle.cops_command_line.specs.declared.fault.LineFault.{LineFault}
 use Rattle.cops_command_line.specs.declared.fault.LineFault.TheVariants.{Memory, Usage, Help, Version}
 use Rattle.cops_command_line.specs.Commands.{cops_app}
@@ -53,17 +54,27 @@ IsAsked all fault (One n) = (¬ IsGiven all) × IsNumberGiven MAX_OPS fault n
 abbrev pub IsFlag : Text → List Row → Bool → Type 0
 IsFlag id rows is_given = IsTrue is_given ↔ IsGiven (first_of id rows)
 
+-- neither all faults nor one of them, no picture and no JSON are asked for
+abbrev pub AsksNoMore : List Row → Type 0
+AsksNoMore rows =
+    (¬ IsGiven (first_of (codes "all") rows)) × (first_of (codes "fault") rows ≡ None) × (first_of (codes "picture") rows ≡ None) × (¬ IsGiven (first_of (codes "json") rows))
+
+-- the text that the value of an option is, where there is one
+abbrev pub IsText : Text → List Row → Option (Bor Text) → Type 0
+IsText id rows text = option_map (λ s. s.now) text ≡ first_of id rows
+
 -- the explanation that the values of `--all`, `--fault`, `--picture` and `--json` ask for
 pub record IsWanted (rows : List Row) (wanted : Wanted) : Type 0 where
   pub faults : IsAsked (first_of (codes "all") rows) (first_of (codes "fault") rows) wanted.faults
-  pub picture : option_map (λ s. s.now) wanted.picture ≡ first_of (codes "picture") rows
+  pub picture : IsText (codes "picture") rows wanted.picture
   pub json : IsFlag (codes "json") rows wanted.is_json
 
 -- the format whose number a value is: format 1 where there is no value
 abbrev pub IsFormat : Option Text → Format → Type 0
 IsFormat value format = IsNumberOr1 2 value (number_of format)
 
--- the job of a subcommand with these values: `audit` has one with its flag, but not together with a number of workers
+-- The job of a subcommand with these values. `audit` has one with its flag, but not together with a number of workers, and `check` one with `--follow`,
+-- but not together with an option of an explanation.
 abbrev pub IsJobOf : Text → List Row → Job → Type 0
 IsJobOf name rows (Audit trace workers) =
     (name ≡ codes "audit") × (first_of (codes "trace") rows ≡ Some trace.now) × (¬ IsGiven (first_of (codes "so-far") rows)) × IsNumberOr1 MAX_WORKERS (first_of (codes "workers") rows) workers
@@ -71,16 +82,21 @@ IsJobOf name rows (SoFar trace) =
     (name ≡ codes "audit") × (first_of (codes "trace") rows ≡ Some trace.now) × IsGiven (first_of (codes "so-far") rows) × (first_of (codes "workers") rows ≡ None)
 IsJobOf name rows (Explain trace wanted) = (name ≡ codes "explain") × (first_of (codes "trace") rows ≡ Some trace.now) × IsWanted rows wanted
 IsJobOf name rows (Check lines is_ranked wanted) =
-    (name ≡ codes "check") × (first_of (codes "lines") rows ≡ Some lines.now) × IsFlag (codes "rank") rows is_ranked × IsWanted rows wanted
+    (name ≡ codes "check") × (first_of (codes "lines") rows ≡ Some lines.now) × IsFlag (codes "rank") rows is_ranked
+    × (¬ IsGiven (first_of (codes "follow") rows)) × IsWanted rows wanted
+IsJobOf name rows (Follow lines is_ranked) =
+    (name ≡ codes "check") × (first_of (codes "lines") rows ≡ Some lines.now) × IsFlag (codes "rank") rows is_ranked
+    × IsGiven (first_of (codes "follow") rows) × AsksNoMore rows
 IsJobOf name rows (Show trace) = (name ≡ codes "show") × (first_of (codes "trace") rows ≡ Some trace.now)
 IsJobOf name rows (Import lines trace format is_ranked) =
     (name ≡ codes "import") × (first_of (codes "lines") rows ≡ Some lines.now) × (first_of (codes "trace") rows ≡ Some trace.now)
     × IsFormat (first_of (codes "format") rows) format × IsFlag (codes "rank") rows is_ranked
 IsJobOf name rows (Convert trace new) = (name ≡ codes "convert") × (first_of (codes "trace") rows ≡ Some trace.now) × (first_of (codes "new") rows ≡ Some new.now)
 IsJobOf name rows (Run scenario trace) = (name ≡ codes "run") × (first_of (codes "scenario") rows ≡ Some scenario.now) × (first_of (codes "trace") rows ≡ Some trace.now)
-IsJobOf name rows (Serve port scenario sessions idle) =
-    (name ≡ codes "serve") × IsNumberGiven MAX_PORT (first_of (codes "port") rows) port × (first_of (codes "scenario") rows ≡ Some scenario.now) × IsNumberOr1 MAX_SESSIONS (first_of (codes "sessions") rows) sessions
-    × IsNumberIfGiven MAX_IDLE (first_of (codes "idle") rows) idle
+IsJobOf name rows (Serve port scenario sessions idle trace is_announced) =
+    (name ≡ codes "serve") × IsNumberGiven MAX_PORT (first_of (codes "port") rows) port × (first_of (codes "scenario") rows ≡ Some scenario.now)
+    × IsNumberOr1 MAX_SESSIONS (first_of (codes "sessions") rows) sessions × IsNumberIfGiven MAX_IDLE (first_of (codes "idle") rows) idle
+    × IsText (codes "trace") rows trace × IsFlag (codes "announce") rows is_announced
 
 -- no job has this subcommand and these values
 abbrev pub HasNoJob : Text → List Row → Type 0

@@ -2,15 +2,15 @@
 ghost use Rattle.std.specs.Prelude.{◌≡◌, IfOk, codes, false};
 ghost use Rattle.clap.specs.Words.{app_of, new_app, rule_of, with_rule};
 ghost use Rattle.clap.specs.declared.builder.command.Command.TheViews.{out-Command as fields_of};
-ghost use Rattle.cops_command_line.specs.Commands.{audit_app, check_app, explaining, cops_app, cops_top, convert_app, explain_app, import_app, port_argument, positional, run_app, serve_app, show_app, versioned};
+ghost use Rattle.cops_command_line.specs.Commands.{audit_app, check_app, explaining, cops_app, cops_top, convert_app, explain_app, import_app, port_app, positional, run_app, serve_app, show_app, versioned};
 
 use crate::arguments::{file_arg, flag_arg, number_arg, port_arg, value_arg};
 use crate::job::{MAX_IDLE, MAX_SESSIONS};
 use crate::texts::{
-    ABOUT, ALL_HELP, AUDIT_ABOUT, About, CHECK_ABOUT, CONVERT_ABOUT, EXPLAIN_ABOUT, FAULT_HELP,
-    FORMAT_HELP, IDLE_HELP, IMPORT_ABOUT, JSON_HELP, LINES_HELP, NEW_TRACE_HELP, PICTURE_HELP,
-    RANK_HELP, RUN_ABOUT, SCENARIO_HELP, SERVE_ABOUT, SESSIONS_HELP, SHOW_ABOUT, SO_FAR_HELP,
-    TRACE_HELP, Text, VERSION, WORKERS_HELP,
+    ABOUT, ALL_HELP, ANNOUNCE_HELP, AUDIT_ABOUT, About, CHECK_ABOUT, CONVERT_ABOUT, EXPLAIN_ABOUT,
+    FAULT_HELP, FOLLOW_HELP, FORMAT_HELP, IDLE_HELP, IMPORT_ABOUT, JSON_HELP, LINES_HELP,
+    NEW_TRACE_HELP, PICTURE_HELP, RANK_HELP, RECORD_HELP, RUN_ABOUT, SCENARIO_HELP, SERVE_ABOUT,
+    SESSIONS_HELP, SHOW_ABOUT, SO_FAR_HELP, TRACE_HELP, Text, VERSION, WORKERS_HELP,
 };
 use clap::{Arg, Command};
 use cops_types::{MAX_OPS, MAX_WORKERS};
@@ -73,7 +73,9 @@ fn check_command<'a>(alloc: Global) -> Result<Command<'a>, AllocError>
 {
     let lines = file_arg(alloc, "lines", "LINES", LINES_HELP);
     let command = described(alloc, "check", CHECK_ABOUT).arg(lines)?;
-    explaining(alloc, command)?.arg(flag_arg(alloc, "rank", RANK_HELP))
+    explaining(alloc, command)?
+        .arg(flag_arg(alloc, "rank", RANK_HELP))?
+        .arg(flag_arg(alloc, "follow", FOLLOW_HELP))
 }
 
 fn show_command<'a>(alloc: Global) -> Result<Command<'a>, AllocError>
@@ -126,7 +128,7 @@ fn run_command<'a>(alloc: Global) -> Result<Command<'a>, AllocError>
 
 /// The subcommand that serves, without its options.
 fn port_command<'a>(alloc: Global) -> Result<Command<'a>, AllocError>
-    ensures app { IfOk result (λ c. app_of c ≡ with_rule (with_rule (new_app (codes "serve")) port_argument) (positional (codes "scenario"))) }
+    ensures app { IfOk result (λ c. app_of c ≡ port_app) }
     ensures local { IfOk result (λ c. (fields_of c).has_globals ≡ false) }
 {
     let command = described(alloc, "serve", SERVE_ABOUT).arg(port_arg(alloc))?;
@@ -146,7 +148,11 @@ fn serve_command<'a>(alloc: Global) -> Result<Command<'a>, AllocError>
         SESSIONS_HELP,
     );
     let idle = number_arg(alloc, "idle", "SECONDS", u32::from(MAX_IDLE), IDLE_HELP);
-    command.arg(sessions)?.arg(idle)
+    command
+        .arg(sessions)?
+        .arg(idle)?
+        .arg(value_arg(alloc, "trace", "FILE", RECORD_HELP))?
+        .arg(flag_arg(alloc, "announce", ANNOUNCE_HELP))
 }
 
 /// The command with its version. A subcommand is required, and the words begin after the program's name.

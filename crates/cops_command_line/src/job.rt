@@ -44,6 +44,12 @@ pub enum Job<'a> {
         is_ranked: bool,
         wanted: Wanted<'a>,
     },
+    /// Judge the lines of a file while it is written, and print the state of their history when it changes. `-` as the
+    /// lines is standard input.
+    Follow {
+        lines: &'a str,
+        is_ranked: bool,
+    },
     /// Print a trace, one line for each frame. `-` is standard input.
     Show {
         trace: &'a str,
@@ -71,11 +77,14 @@ pub enum Job<'a> {
     },
     /// Serve `sessions` sessions, 1 to 65,535, of a scenario's cluster on a port of 127.0.0.1, and print the report.
     /// `-` is standard input. A client that is idle for `idle` seconds, 1 to 65,535, is dropped; where no number is
-    /// given, no client is.
+    /// given, no client is. The trace goes to a file, if one is named; `-` is standard output. If it is announced, a line
+    /// on standard error says when the port is open.
     Serve {
         port: u16,
         scenario: &'a str,
         sessions: u16,
         idle: Option<u16>,
+        trace: Option<&'a str>,
+        is_announced: bool,
     },
 }

@@ -4,7 +4,7 @@ ghost use Rattle.clap.specs.Words.{found_of, rows_of, subcommand_rows_of};
 ghost use Rattle.cops_command_line.specs.Line.{HasNoJob, HasNoJobIn, IsJobIn, IsJobOf};
 
 use crate::job::Job;
-use crate::values::{format, idle, is_given, port, sessions, value, wanted, workers};
+use crate::values::{asks_no_more, format, idle, is_given, port, sessions, value, wanted, workers};
 use clap::ArgMatches;
 
 /// The job of `audit`, for a trace that is whole or may be cut: a number of workers together with `--so-far` is no job.
@@ -23,6 +23,28 @@ fn audit_job<'a>(matches: &ArgMatches<'a>) -> Option<Job<'a>>
     }
 }
 
+/// The job of `check`, for lines that are whole or still being written: an explanation that is asked for together with
+/// `--follow` is no job.
+fn check_job<'a>(matches: &ArgMatches<'a>) -> Option<Job<'a>>
+    ensures some { IfSome result (IsJobOf (codes "check") (rows_of (found_of matches.now))) }
+    ensures none { IfNone result (HasNoJob (codes "check") (rows_of (found_of matches.now))) }
+{
+    let lines = value(matches, "lines")?;
+    let is_ranked = is_given(matches, "rank");
+    if !is_given(matches, "follow") {
+        return Some(Job::Check {
+            lines,
+            is_ranked,
+            wanted: wanted(matches)?,
+        });
+    }
+    if asks_no_more(matches) {
+        Some(Job::Follow { lines, is_ranked })
+    } else {
+        None
+    }
+}
+
 fn job_of<'a>(name: &str, matches: &ArgMatches<'a>) -> Option<Job<'a>>
     ensures some { IfSome result (IsJobOf name.now (rows_of (found_of matches.now))) }
     ensures none { IfNone result (HasNoJob name.now (rows_of (found_of matches.now))) }
@@ -33,11 +55,7 @@ fn job_of<'a>(name: &str, matches: &ArgMatches<'a>) -> Option<Job<'a>>
             trace: value(matches, "trace")?,
             wanted: wanted(matches)?,
         }),
-        "check" => Some(Job::Check {
-            lines: value(matches, "lines")?,
-            is_ranked: is_given(matches, "rank"),
-            wanted: wanted(matches)?,
-        }),
+        "check" => check_job(matches),
         "show" => Some(Job::Show {
             trace: value(matches, "trace")?,
         }),
@@ -60,6 +78,8 @@ fn job_of<'a>(name: &str, matches: &ArgMatches<'a>) -> Option<Job<'a>>
             scenario: value(matches, "scenario")?,
             sessions: sessions(matches)?,
             idle: idle(matches)?,
+            trace: value(matches, "trace"),
+            is_announced: is_given(matches, "announce"),
         }),
         _ => None,
     }

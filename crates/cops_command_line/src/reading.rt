@@ -7,9 +7,10 @@ use crate::command::cops_command;
 use crate::fault::LineFault;
 use crate::job::Job;
 use crate::jobs::job_in;
-use crate::texts::{ALL_CONFLICT, CHECK_ALL_CONFLICT, SO_FAR_CONFLICT};
-use clap::Error;
+use crate::texts::{ALL_CONFLICT, CHECK_ALL_CONFLICT, FOLLOW_CONFLICT, SO_FAR_CONFLICT};
+use crate::values::is_given;
 use clap::error::ErrorKind;
+use clap::{ArgMatches, Error};
 use std::alloc::Global;
 
 /// The fault for an error of the parser, with its text.
@@ -29,14 +30,16 @@ fn as_fault(alloc: Global, error: &Error) -> LineFault
 }
 
 /// The fault for words that the command takes, though they are no job: those of `explain` and `check` with both `--all`
-/// and `--fault`, and those of `audit` with both `--so-far` and `--workers`. No other words are without a job, though
-/// that is not proved, as no clause says that a required argument has a value.
-fn no_job(alloc: Global, subcommand: Option<&str>) -> LineFault
+/// and `--fault`, those of `check` with `--follow` and an option of an explanation, and those of `audit` with both
+/// `--so-far` and `--workers`. No other words are without a job, though that is not proved, as no clause says that a
+/// required argument has a value.
+fn no_job(alloc: Global, matches: &ArgMatches<'_>) -> LineFault
     ensures { Reports ArgumentConflict result }
 {
-    let text = match subcommand {
-        Some("explain") => ALL_CONFLICT,
-        Some("check") => CHECK_ALL_CONFLICT,
+    let text = match matches.subcommand() {
+        Some(("explain", _)) => ALL_CONFLICT,
+        Some(("check", inner)) if is_given(inner, "follow") => FOLLOW_CONFLICT,
+        Some(("check", _)) => CHECK_ALL_CONFLICT,
         _ => SO_FAR_CONFLICT,
     };
     match String::from_str(alloc, text) {
@@ -50,9 +53,11 @@ fn no_job(alloc: Global, subcommand: Option<&str>) -> LineFault
 /// - `audit TRACE`, with `--workers N` or without it, which means 1, or with `--so-far`;
 /// - `explain TRACE` and `check LINES`, with `--all` or `--fault N` or neither, which means the first 20, and with
 ///   `--picture FILE` and `--json` or without them; `check` also with `--rank`;
+/// - `check LINES --follow`, with `--rank` or without it, and with none of the others;
 /// - `show TRACE`; `convert TRACE NEW`; `run SCENARIO TRACE`;
 /// - `import LINES TRACE`, with `--format N`, 1 or 2, or without it, which means 1, and with `--rank` or without it;
-/// - `serve PORT SCENARIO`, with `--sessions N` or without it, which means 1, and with `--idle SECONDS` or without it;
+/// - `serve PORT SCENARIO`, with `--sessions N` or without it, which means 1, and with `--idle SECONDS`, `--trace FILE`
+///   and `--announce` or without them;
 /// - no words, which means `audit -`.
 ///
 /// The errors: `Usage` where the words are no job, such as `audit` with both `--workers` and `--so-far` and `explain`
@@ -79,7 +84,7 @@ pub fn line<'a>(alloc: Global, words: &'a [&'a str]) -> Result<Job<'a>, LineFaul
     match command.try_get_matches_from(words) {
         Ok(matches) => match job_in(&matches) {
             Some(job) => Ok(job),
-            None => Err(no_job(alloc, matches.subcommand_name())),
+            None => Err(no_job(alloc, &matches)),
         },
         Err(error) => Err(as_fault(alloc, &error)),
     }

@@ -4,7 +4,7 @@
 pub type Text = &'static str;
 
 /// The version of the program, and the Rattle toolchain and its logic with which it is proved and built.
-pub const VERSION: &str = "0.1.0 (rattle-kit-13f, logic dac8208d650f15bf)";
+pub const VERSION: &str = "0.2.0 (rattle-kit-13f, logic dac8208d650f15bf)";
 
 /// What the help says of a command: in one line, and at length.
 #[derive(Clone, Copy, Debug)]
@@ -67,7 +67,13 @@ The lines are those of `cops import --format 2`, which is judged as by `cops aud
 file. The verdict is printed, then how many puts of unknown outcome took effect, if there are any,
 and where it is `refused: ..`, of each fault which operations show it, each by the name of its
 client and the number of its line. The options are those of `cops explain`. The first line that is
-wrong is answered with one line, `faulty: line N: ..`.",
+wrong is answered with one line, `faulty: line N: ..`.
+
+With --follow the lines are judged while they are written, until standard input or a pipe ends or the
+program is interrupted. When the state changes, and at most once a second, it is printed:
+`so far: clean`, `so far: waiting N` where N gets have no put of their version yet, or
+`so far: refused`, with the first fault explained, where no further line can make the history right.
+Of a get that waits, its put is taken to be the one operation of a client of its own.",
 };
 
 pub const SHOW_ABOUT: About = About {
@@ -141,7 +147,9 @@ One client is connected at a time. It first says which client of the scenario it
 puts and gets in that client's data centre. When it has gone, its puts are sent to the other data
 centres, and the next client is served. With --idle a client that sends nothing, or reads nothing,
 for that many seconds is disconnected. After the last session cops prints the report on what all
-clients saw, and ends.",
+clients saw, and ends. With --trace it also writes the trace of what they saw; an older file stays as
+it was until then. Where the trace goes to standard output, the report goes to standard error.
+Scripts and events of the scenario are not run.",
 };
 
 pub const PORT_HELP: &str = "The port to listen on, 1 to 65535";
@@ -151,6 +159,12 @@ pub const SESSIONS_HELP: &str =
 
 pub const IDLE_HELP: &str =
     "After how many idle seconds a client is disconnected, 1 to 65535; without it never";
+
+pub const RECORD_HELP: &str =
+    "The trace file to write after the last session, or `-` for standard output";
+
+pub const ANNOUNCE_HELP: &str =
+    "Say on standard error when the port is open; who then closes without a byte is no session";
 
 pub const TRACE_HELP: &str = "The trace file, or `-` for standard input";
 
@@ -175,6 +189,9 @@ pub const JSON_HELP: &str = "Print one JSON object in place of words";
 pub const RANK_HELP: &str =
     "Take versions of any store, and give each its rank among those of the file";
 
+pub const FOLLOW_HELP: &str =
+    "Judge the lines while they are written, and print the state when it changes; only with --rank";
+
 pub const FORMAT_HELP: &str =
     "The format of the trace, 1 or 2; without it 1, which has no deletions";
 
@@ -195,6 +212,15 @@ pub const ALL_CONFLICT: &str = "\
 error: the argument '--all' cannot be used with '--fault <N>'
 
 Usage: cops explain --all <TRACE>
+
+For more information, try '--help'.
+";
+
+/// The usage where `--follow` is given with an option of an explanation.
+pub const FOLLOW_CONFLICT: &str = "\
+error: the argument '--follow' cannot be used with one or more of the other specified arguments
+
+Usage: cops check --follow <LINES>
 
 For more information, try '--help'.
 ";

@@ -6,7 +6,7 @@ ghost use Rattle.cops_types.specs.declared.selection.Selection.{Selection as ASe
 ghost use Rattle.cops_command_line.specs.declared.job.TheConstants.{MAX_IDLE, MAX_PORT, MAX_SESSIONS};
 ghost use Rattle.cops_types.specs.declared.format.Format.{Format as AFormat};
 ghost use Rattle.cops_command_line.specs.declared.job.Wanted.{Wanted as AWanted};
-ghost use Rattle.cops_command_line.specs.Line.{IsAsked, IsFormat, IsGiven, IsNumber, IsNumberGiven, IsNumberIfGiven, IsNumberOr1, IsWanted};
+ghost use Rattle.cops_command_line.specs.Line.{IsAsked, IsFormat, IsGiven, IsNumber, IsNumberGiven, IsNumberIfGiven, IsNumberOr1, IsWanted, AsksNoMore};
 
 use crate::job::{MAX_IDLE, MAX_PORT, MAX_SESSIONS, Wanted};
 use clap::ArgMatches;
@@ -122,6 +122,14 @@ pub fn wanted<'a>(matches: &ArgMatches<'a>) -> Option<Wanted<'a>>
         picture: value(matches, "picture"),
         is_json: is_given(matches, "json"),
     })
+}
+
+/// Whether no explanation is asked for: neither all faults nor one of them, no picture and no JSON.
+pub fn asks_no_more(matches: &ArgMatches<'_>) -> bool
+    ensures { IsTrue result ↔ AsksNoMore (rows_of (found_of matches.now)) }
+{
+    let is_of_faults = is_given(matches, "all") || value(matches, "fault").is_some();
+    !is_of_faults && value(matches, "picture").is_none() && !is_given(matches, "json")
 }
 
 /// The format of a trace: format 1 where it is not given.

@@ -3,8 +3,9 @@
 //!
 //! `specs/Protocol.antt` defines the protocol as functions of whole lists: which messages are handed over, as which
 //! calls, and the replies that follow from the messages and those calls. `serve_session` does exactly that; `listen`
-//! does it for one connection after the other, and so does `listen_with_idle`, which waits for an idle client no longer
-//! than a given time. The trait `Session` is what answers; it keeps the list of its calls with their answers.
+//! does it for one connection after the other. So does `serve_connections`, at a listener of `bind`; it can wait for an
+//! idle client no longer than a given time, and skip connections that are closed before they send a byte. The trait
+//! `Session` is what answers; it keeps the list of its calls with their answers.
 //!
 //! A session has a format. A client greets with the format's number; what it sends up to that greeting is read in
 //! format 1, and what it sends after it in the session's format.
@@ -26,7 +27,7 @@ mod session;
 
 pub use fault::NetFault;
 pub use laws::one_reply_each;
-pub use listening::{listen, listen_with_idle};
+pub use listening::{Terms, bind, listen, serve_connections};
 pub use reply::{Call, Reply};
 pub use serving::{Served, serve_session};
 pub use session::Session;

@@ -1,5 +1,5 @@
 //! Serving sessions over connections, one after the other.
-ghost use Rattle.std.specs.Prelude.{◌≡◌, ◌<◌, ◌+◌, ◌^◌, ◌++◌, ◌↔◌, List, ℕ, Result, IsErr, IsErrOf, OnErr};
+ghost use Rattle.std.specs.Prelude.{◌≡◌, ◌≢◌, ◌<◌, ◌+◌, ◌^◌, ◌++◌, ◌↔◌, List, ℕ, Result, Err, IfErr, IsErr, IsErrOf, OnErr};
 ghost use Rattle.std.specs.Io.KnownBytes.{Appends, Consumes, IsAtEnd};
 ghost use Rattle.cops_types.specs.Counted.{failures, inner};
 ghost use Rattle.cops_net.specs.declared.serving.Served.{Served};
@@ -19,6 +19,20 @@ use std::io::{Read, Write};
 use std::net::{Ipv4Addr, Net, TcpListener, TcpStream};
 use std::sync::Wait;
 use std::time::Duration;
+
+/// The greatest number of silent connections that are skipped one after the other.
+const MOST_SILENT: u64 = 1 << 40;
+
+/// How many sessions are served, and on which terms their connections.
+#[derive(Clone, Copy, Debug)]
+pub struct Terms {
+    /// The number of sessions.
+    pub sessions: u16,
+    /// How long a read or a write of a session may wait, if that is limited.
+    pub idle: Option<Duration>,
+    /// Whether a connection that is closed before it sends a byte is skipped, and does not count as a session.
+    pub skips_silent: bool,
+}
 
 /// Serves one client over a reader and a writer. Returns `Memory` when memory ran out; anything else that ended the
 /// session ended only that session, and is not an error here.
@@ -79,6 +93,44 @@ fn serve_connection<R: Wait, S: Session>(
     served
 }
 
+/// A listener on a port of 127.0.0.1. The only error is `BindFailed`, where the port cannot be bound.
+pub fn bind<R: Net<Listener = TcpListener, Stream = TcpStream>>(
+    rt: &R,
+    port: u16,
+) -> Result<TcpListener, NetFault>
+    ensures { IfErr result (λ fault. fault ≡ NetFault.BindFailed) }
+{
+    match TcpListener::bind(rt, (Ipv4Addr::LOCALHOST, port)) {
+        Ok(listener) => Ok(listener),
+        Err(_) => Err(NetFault::BindFailed),
+    }
+}
+
+/// Whether a connection is closed before it sends a byte. This waits for a byte or the end, no longer than a read may.
+fn is_silent(stream: &TcpStream, idle: Option<Duration>) -> bool {
+    let mut first = [0u8; 1];
+    stream.set_read_timeout(idle).is_ok() && matches!(stream.peek(&mut first), Ok(0))
+}
+
+/// Accepts the next connection. Where silent connections are skipped, this is the next that sends a byte, stays silent
+/// for longer than a read may wait, or fails. The only error is `AcceptFailed`, where no connection can be accepted, or
+/// 1,099,511,627,776 silent ones were skipped.
+fn next_connection(listener: &TcpListener, terms: Terms) -> Result<TcpStream, NetFault>
+    ensures { IfErr result (λ fault. fault ≡ NetFault.AcceptFailed) }
+{
+    for _ in 0..MOST_SILENT {
+        let stream = match listener.accept() {
+            Ok((stream, _)) => stream,
+            Err(_) => return Err(NetFault::AcceptFailed),
+        };
+        if !(terms.skips_silent && is_silent(&stream, terms.idle)) {
+            return Ok(stream);
+        }
+        drop(stream);
+    }
+    Err(NetFault::AcceptFailed)
+}
+
 /// Listens on a port of 127.0.0.1, and serves `sessions` connections, one after the other, each by `serve_session`. Any
 /// fault but `Memory` ends only its session, which counts as served. `after_session` is called after each session.
 ///
@@ -98,34 +150,39 @@ pub fn listen<R: Net<Listener = TcpListener, Stream = TcpStream> + Wait, S: Sess
         × AreServed (S.format session.old) S.calls S.ends begun session.old session.new × IsCount sessions begun result
         × (S.ended session.old + begun < 2 ^ 64 → S.ended session.new ≡ S.ended session.old + begun) }
 {
-    listen_with_idle(rt, alloc, port, session, sessions, None)
+    let listener = bind(rt, port)?;
+    let terms = Terms {
+        sessions,
+        idle: None,
+        skips_silent: false,
+    };
+    serve_connections(rt, alloc, &listener, session, terms)
 }
 
-/// Like `listen`, but if a time is given, a client that sends nothing, or takes nothing, for longer than that in
-/// mid-session ends its session alone, as a failed read or a failed write does. The errors are those of `listen`.
-pub fn listen_with_idle<R: Net<Listener = TcpListener, Stream = TcpStream> + Wait, S: Session>(
+/// Serves `terms.sessions` connections to a listener, one after the other, each by `serve_session`. Any fault but
+/// `Memory` ends only its session, which counts as served. `after_session` is called after each session. If `terms.idle`
+/// is given, a client that sends nothing, or takes nothing, for longer than that in mid-session ends its session alone,
+/// as a failed read or a failed write does. If `terms.skips_silent` is set, a connection that is closed before it sends
+/// a byte is skipped.
+///
+/// Errors: `AcceptFailed` where no connection can be accepted, and `Memory` after the session in which memory ran out.
+pub fn serve_connections<R: Wait, S: Session>(
     rt: &R,
     alloc: Global,
-    port: u16,
+    listener: &TcpListener,
     session: &mut S,
-    sessions: u16,
-    idle: Option<Duration>,
+    terms: Terms,
 ) -> Result<(), NetFault>
+    // The clause of `listen`, of `terms.sessions` sessions.
     ensures sessions { (begun : ℕ) × (gained : List Call) × (S.calls session.new ≡ S.calls session.old ++ gained)
         × AreSessions (S.format session.old) begun gained
-        × AreServed (S.format session.old) S.calls S.ends begun session.old session.new × IsCount sessions begun result
+        × AreServed (S.format session.old) S.calls S.ends begun session.old session.new × IsCount terms.sessions begun result
         × (S.ended session.old + begun < 2 ^ 64 → S.ended session.new ≡ S.ended session.old + begun) }
+    ensures unbound { result ≢ Err NetFault.BindFailed }
 {
-    let listener = match TcpListener::bind(rt, (Ipv4Addr::LOCALHOST, port)) {
-        Ok(listener) => listener,
-        Err(_) => return Err(NetFault::BindFailed),
-    };
-    for _ in 0..sessions {
-        let stream = match listener.accept() {
-            Ok((stream, _)) => stream,
-            Err(_) => return Err(NetFault::AcceptFailed),
-        };
-        let served = serve_connection(rt, alloc, &stream, session, idle);
+    for _ in 0..terms.sessions {
+        let stream = next_connection(listener, terms)?;
+        let served = serve_connection(rt, alloc, &stream, session, terms.idle);
         drop(stream);
         session.after_session(rt);
         if let Err(Memory) = served {

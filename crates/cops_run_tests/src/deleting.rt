@@ -1,7 +1,7 @@
 //! Server sessions with deletions, and in format 1, which has none.
 use cops_net::{Call, NetFault, Reply, Served, Session, serve_session};
 use cops_scenario::Scenario;
-use cops_serve::{FrontEnd, ServeFault};
+use cops_serve::{Finished, FrontEnd, ServeFault};
 use cops_types::Counted;
 use cops_wire::WireFault;
 use std::alloc::Global;
@@ -134,9 +134,10 @@ fn are_listed(calls: &[Call]) -> bool {
 }
 
 /// Whether the report is of an accepted history of three operations, of which the deletion counts as a put.
-fn is_accepted(ended: Result<Vec<u8>, ServeFault>) -> bool {
+fn is_accepted(ended: Result<Finished, ServeFault>) -> bool {
     let wanted = b"accepted: 3 operations, 2 puts\n";
-    let is_accepted = matches!(&ended, Ok(report) if report.as_slice() == wanted.as_slice());
+    let is_accepted =
+        matches!(&ended, Ok(finished) if finished.report.as_slice() == wanted.as_slice());
     drop(ended);
     is_accepted
 }

@@ -1,7 +1,7 @@
 //! A scenario's cluster behind the front door.
 use cops_net::{Call, NetFault, Reply, Served, Session, serve_session};
 use cops_scenario::Scenario;
-use cops_serve::{FrontEnd, ServeFault};
+use cops_serve::{Finished, FrontEnd, ServeFault};
 use cops_types::{Counted, FailingReader, FailingWriter};
 use cops_wire::WireFault;
 use std::alloc::Global;
@@ -158,7 +158,7 @@ fn messages_are_cut_at_each_byte(rt: HostRuntime) -> Result<(), Fail> {
 }
 
 /// Whether there is no report because not even the first ticket belongs to the scenario. Drops a report.
-fn is_untied(ended: Result<Vec<u8>, ServeFault>) -> bool {
+fn is_untied(ended: Result<Finished, ServeFault>) -> bool {
     let is_untied = matches!(&ended, Err(ServeFault::Untied { ticket: 0 }));
     drop(ended);
     is_untied

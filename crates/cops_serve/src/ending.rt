@@ -13,20 +13,28 @@ use cops_replication::Receiver;
 use cops_report::report_of;
 use cops_scenario::Scenario;
 use cops_tie::{TieFault, tied_run};
+use cops_trace::Trace;
 use cops_types::Memory;
 use std::alloc::{AllocError, Global};
+
+/// What is left of a front end at its end: the trace of what the clients saw, and the report of it.
+#[derive(Drop)]
+pub struct Finished {
+    pub trace: Trace,
+    pub report: Vec<u8>,
+}
 
 impl FrontEnd {
     ghost use Rattle.std.specs.Prelude.{IfOk};
     ghost use Rattle.cops_serve.specs.Serving.{IsReportOn};
 
-    /// Closes the cluster and returns the report of what the clients saw in this scenario's world.
+    /// Closes the cluster and returns the trace of what the clients saw in this scenario's world, and its report.
     ///
     /// Errors: `Untied` where the nodes' logs and the clients' sessions are not a run of that world, or the logs differ
     /// from what the callers were answered, with the least ticket at which that shows, or 0 where the cluster does not
     /// have the scenario's nodes; `Memory` when memory runs out.
-    pub fn finish(self, scenario: &Scenario) -> Result<Vec<u8>, ServeFault>
-        ensures { IfOk result (λ text. IsReportOn scenario.now self text.items) }
+    pub fn finish(self, scenario: &Scenario) -> Result<Finished, ServeFault>
+        ensures { IfOk result (λ finished. IsReportOn scenario.now self finished.trace finished.report.items) }
     {
         if !is_of(&self.cluster, scenario) {
             drop(self);
@@ -47,7 +55,9 @@ impl FrontEnd {
             }
         };
         let closed = closed(cluster, shares)?;
-        reported(alloc, scenario, &closed)
+        let report = reported(alloc, scenario, &closed)?;
+        let Closed { trace, .. } = closed;
+        Ok(Finished { trace, report })
     }
 }
 
@@ -94,7 +104,7 @@ fn closed(cluster: Cluster, shares: Vec<Share>) -> Result<Closed, ServeFault>
 /// The report of what a closed cluster's clients saw in a scenario's world.
 fn reported(alloc: Global, scenario: &Scenario, closed: &Closed) -> Result<Vec<u8>, ServeFault>
     requires { length closed.now.books.items ≡ scenario.now.place.dcs * (length scenario.now.place.splits + 1) }
-    ensures { IfOk result (λ text. IsTiedReport (setting_of scenario.now) closed.now.books.items text.items) }
+    ensures { IfOk result (λ text. IsTiedReport (setting_of scenario.now) closed.now.books.items closed.now.trace text.items) }
 {
     let setting = scenario.setting(alloc).or(Err(ServeFault::Memory))?;
     let reported = reported_in(alloc, &setting, closed);
@@ -105,7 +115,7 @@ fn reported(alloc: Global, scenario: &Scenario, closed: &Closed) -> Result<Vec<u
 /// Like `reported`, but takes the world's setting.
 fn reported_in(alloc: Global, setting: &Setting, closed: &Closed) -> Result<Vec<u8>, ServeFault>
     requires { length closed.now.books.items ≡ setting.now.place.dcs * (length setting.now.place.splits + 1) }
-    ensures { IfOk result (λ text. IsTiedReport setting.now closed.now.books.items text.items) }
+    ensures { IfOk result (λ text. IsTiedReport setting.now closed.now.books.items closed.now.trace text.items) }
 {
     match tied_run(alloc, setting, &closed.books, &closed.trace) {
         Ok(run) => drop(run),

@@ -14,4 +14,7 @@ pub enum ServeFault {
     BindFailed,
     #[error("accept")]
     AcceptFailed,
+    /// The trace of what the clients saw could not be written.
+    #[error("write")]
+    WriteFailed,
 }

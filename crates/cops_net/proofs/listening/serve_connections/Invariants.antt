@@ -1,7 +1,7 @@
 use Rattle.std.proofs.Common.{◌≡◌, ◌<◌, ◌+◌, ◌^◌, List, ◌++◌}
 use Rattle.cops_net.specs.declared.reply.Call.{Call}
 use Rattle.cops_net.specs.Listening.{AreSessions, AreServed}
-use Rattle.cops_net.proofs.listening.listen_with_idle.Given as goal
+use Rattle.cops_net.proofs.listening.serve_connections.Given as goal
 
 abbrev pub invariant-loop : goal.invariant-loop
 invariant-loop g l =
