@@ -1,5 +1,5 @@
 -- What causal summaries say of a history, for sweeps: steps, pasts and newest puts.
-use Rattle.std.proofs.Common.{◌≡◌, ◌<◌, ◌≤◌, ℕ, zero, suc, List, [], ◌∷◌, length, get_or, Some, refl, ◌∙◌, ap, subst, inl, inr, arith, slice_index_or, slice_get}
+use Rattle.std.proofs.Common.{◌≡◌, ◌<◌, ◌≤◌, ℕ, zero, suc, List, [], ◌∷◌, length, get_or, Some, refl, sym, ◌∙◌, ap, subst, inl, inr, arith, slice_index_or, slice_get}
 use Rattle.std.proofs.lemmas.Bool.{cases_lt}
 use Rattle.cops_types.specs.declared.op.OpName.{OpName}
 use Rattle.cops_types.specs.Histories.{Sessions, IsNamed, SourceStep}
@@ -13,7 +13,11 @@ use Rattle.cops_audit.specs.declared.summaries.Summary.{Summary}
 use Rattle.cops_audit.specs.declared.summaries.OpPlace.{OpPlace}
 use Rattle.cops_audit.specs.declared.summaries.OpPlace.TheVariants.{Put, Got, Sourceless}
 use Rattle.cops_audit.specs.declared.window.Suspect.{Suspect}
-use Rattle.cops_audit.specs.Keys.{AreFirsts, OnKey}
+use Rattle.cops_audit.specs.Analyses.{IsAnalysis}
+use Rattle.cops_audit.specs.KeyIndexes.{IsKeyIndex}
+use Rattle.cops_audit.specs.Keys.{AreFirsts, AreNexts, KnowsFirsts, OnKey}
+use Rattle.cops_audit.specs.declared.analysis.Analysis.{Analysis}
+use Rattle.cops_audit.specs.declared.key_index.KeyIndex.{KeyIndex}
 use Rattle.cops_audit.specs.Summaries.{AreMarks, IsSummarized, StandsAt, summary_at}
 use Rattle.cops_audit.specs.Sweeps as sweep
 use Rattle.cops_audit.specs.Sweeps.{ArePlaces, AreRising, IsNewestIn, NoneFrom, SummaryPast, SummaryStep}
@@ -159,3 +163,30 @@ module _ (h : Sessions) (table : List VersionedPut) (t : IsVersionTable h table)
 
     pub none_reported : NoneFrom table summaries firsts s.op s.first s.from → (q : OpName) (w : ℕ) → ¬ IsNewer h s.op q w
     none_reported none q w f = let at = later_place q w f in none at.0 q w at.1 at.3 at.2 at.4
+
+-- the summaries of an analysis fit its table
+pub analysis_rising : (a : Analysis) → IsAnalysis a → AreRising a.table.now a.summaries.now
+analysis_rising a is = are_rising a.history.now.sessions a.table.now is.table a.summaries.now is.summaries is.sources is.above is.limits
+
+pub analysis_places : (a : Analysis) → IsAnalysis a → ArePlaces a.table.now a.firsts.now
+analysis_places a is = are_places a.history.now.sessions a.table.now is.table a.firsts.now is.firsts
+
+pub analysis_suspect : (a : Analysis) → IsAnalysis a → (s : Suspect) → IsSuspect a.history.now.sessions a.table.now s → IsSummarizedSuspect a.summaries.now s
+analysis_suspect a is = summarized_suspect a.history.now.sessions a.table.now is.table a.summaries.now is.summaries is.sources
+
+-- an analysis whose parts are seen in a table, in summaries and in a list of the puts by their keys
+pub is_analysis : (a : Analysis) (table : List VersionedPut) (keys : KeyIndex) → a.table.now ≡ table → a.nexts.now ≡ keys.nexts.items → a.by_key.now ≡ keys.by_key.items → a.firsts.now ≡ keys.firsts.items
+    → IsVersionTable a.history.now.sessions table → IsSummarized a.history.now.sessions table a.summaries.now → IsKeyIndex a.history.now table keys
+    → HaveSourcesOrWait a.history.now.sessions → AllAbove a.history.now.sessions → IsWithinLimits a.history.now.sessions → IsAnalysis a
+is_analysis a table keys same nexts by_key firsts is summarized linked sources above limits =
+    let h = a.history.now.sessions in
+    record {
+      table = subst (IsVersionTable h) (sym same) is;
+      summaries = subst (λ (t : List VersionedPut). IsSummarized h t a.summaries.now) (sym same) summarized;
+      nexts = subst (λ (t : List VersionedPut). AreNexts h t a.nexts.now) (sym same) (subst (AreNexts h table) (sym nexts) linked.nexts);
+      by_key = subst (λ (t : List VersionedPut). KnowsFirsts a.history.now t a.by_key.now) (sym same) (subst (KnowsFirsts a.history.now table) (sym by_key) linked.by_key);
+      firsts = subst (λ (t : List VersionedPut). AreFirsts h t a.firsts.now) (sym same) (subst (AreFirsts h table) (sym firsts) linked.firsts);
+      sources = sources;
+      above = above;
+      limits = limits;
+    }

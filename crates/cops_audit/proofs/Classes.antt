@@ -16,7 +16,7 @@ use Rattle.cops_audit.specs.declared.window.Suspect.{Suspect}
 use Rattle.cops_audit.specs.Names.{ListsAmong}
 use Rattle.cops_audit.specs.Summaries.{IsSummarized, IsSourceless}
 use Rattle.cops_audit.specs.Tables.{IsPutTable, IsVersionTable}
-use Rattle.cops_audit.specs.Windows.{AreSuspects, IsSuspect}
+use Rattle.cops_audit.specs.Windows.{AreSuspects, AreSuspectsInOrder}
 use Rattle.cops_audit.proofs.Collect.{among_all, among_none, among_same, get_or-default}
 use Rattle.cops_audit.proofs.PastOrder.{past_to}
 use Rattle.cops_audit.proofs.Places.{doubled_by_neighbour, neighbour_of_doubled, place_of_put, put_at}
@@ -44,9 +44,8 @@ listed_op suspects n at =
 pub seen_suspects : {h : Sessions} {table : List VersionedPut} {names : List OpName} {seen suspects : List Suspect} → seen ≡ suspects → AreSuspects h table names suspects → AreSuspects h table names seen
 seen_suspects {h} {table} {names} e are = subst (AreSuspects h table names) (sym e) are
 
-pub each_suspect : {h : Sessions} {table : List VersionedPut} {names : List OpName} {suspects : List Suspect} → AreSuspects h table names suspects
-    → (k : ℕ) (d : Suspect) → k < length suspects → IsSuspect h table (get_or suspects k d)
-each_suspect {suspects = suspects} are k d inside = (are.each _ (Contains-get_or suspects k d inside)).0
+pub in_order_suspects : {h : Sessions} {table : List VersionedPut} {names : List OpName} {suspects : List Suspect} → AreSuspects h table names suspects → AreSuspectsInOrder h table suspects
+in_order_suspects {suspects = suspects} are = record { each = λ k d inside. (are.each _ (Contains-get_or suspects k d inside)).0; in_order = are.in_order }
 
 -- the stale gets among the suspects are the stale gets among the names
 pub of_suspects : {h : Sessions} {table : List VersionedPut} {names : List OpName} {suspects : List Suspect} {faults : List Stale} → AreSuspects h table names suspects

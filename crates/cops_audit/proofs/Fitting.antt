@@ -11,6 +11,8 @@ use Rattle.cops_audit.specs.declared.sweep.Sweep.{Sweep}
 use Rattle.cops_types.specs.declared.versioned_put.VersionedPut.{VersionedPut}
 use Rattle.cops_audit.specs.Summaries.{summary_at}
 use Rattle.cops_audit.specs.Sweeps.{AreRising, Covers, HasRoom}
+use Rattle.cops_audit.specs.KeyIndexes.{HasCapacity}
+use Rattle.cops_audit.specs.declared.key_index.KeyIndex.{KeyIndex}
 use Rattle.cops_audit.proofs.Marks.{slice_get_inside}
 
 -- a list that is lower at each place has the lower sum
@@ -102,3 +104,7 @@ covered table summaries rising place put version stands = let there = rising.put
 -- an error is not `Ok`
 pub no_ok : {A : Type 0} → false ≡ true → A
 no_ok e = absurd cc
+
+-- what has capacity for more has it for fewer
+pub has_capacity : {few many : ℕ} {index : KeyIndex} → few ≤ many → HasCapacity many index → HasCapacity few index
+has_capacity le has = record { nexts = omega (arith, le, has.nexts); by_key = omega (arith, le, has.by_key); firsts = omega (arith, le, has.firsts) }

@@ -3,10 +3,11 @@ use Rattle.std.specs.Prelude.{◌≡◌, ◌<◌, ◌≤◌, ◌+◌, ℕ, List,
 use Rattle.cops_types.specs.declared.versioned_put.VersionedPut.{VersionedPut}
 use Rattle.cops_audit.specs.declared.summaries.Summary.{Summary}
 use Rattle.cops_audit.specs.declared.summaries.OpPlace.TheVariants.{Got}
+use Rattle.cops_audit.specs.declared.analysis.Analysis.{Analysis}
 use Rattle.cops_audit.specs.declared.sweep.Sweep.{Sweep}
 use Rattle.cops_audit.specs.declared.window.Suspect.{Suspect}
 use Rattle.cops_audit.specs.Summaries.{summary_at}
-use Rattle.cops_audit.specs.Sweeps.{IsAbout, IsSweeping}
+use Rattle.cops_audit.specs.Sweeps.{IsAbout, IsNewestIn, IsSweeping, NoneFrom}
 
 -- for each suspect a lower bound of the places of the puts that matter to it and to its client's later suspects
 pub record AreFloors (suspects : List Suspect) (floors : List ℕ) : Type 0 where
@@ -27,3 +28,11 @@ pub record IsAfter (table : List VersionedPut) (summaries : List (List Summary))
   pub places : length table ≤ length sweep.newest
   pub sweeping : (j : ℕ) → j + 1 ≡ k → IsSweeping table summaries firsts (slice_index floors j) sweep (λ _. ⊥)
   pub about : (j : ℕ) (d : Suspect) → j + 1 ≡ k → IsAbout table summaries sweep (slice_index_or suspects j d).op
+
+-- the newest put on a suspect's key in its past is at this place, and would be newer than what it returned
+abbrev pub IsNewestFor : Analysis → Suspect → ℕ → Type 0
+IsNewestFor a suspect place = (suspect.from ≤ place) × IsNewestIn a.table.now a.summaries.now a.firsts.now suspect.op suspect.first place
+
+-- no put that would be newer than what a suspect returned is in its past
+abbrev pub HasNoNewer : Analysis → Suspect → Type 0
+HasNoNewer a suspect = NoneFrom a.table.now a.summaries.now a.firsts.now suspect.op suspect.first suspect.from

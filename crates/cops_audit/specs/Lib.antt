@@ -1,6 +1,7 @@
+pub mod Analyses
 pub mod Clocks
 pub mod Keys
-pub mod Links
+pub mod KeyIndexes
 pub mod Names
 pub mod Summarized
 pub mod Summaries

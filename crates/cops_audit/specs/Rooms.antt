@@ -3,11 +3,11 @@ use Rattle.std.specs.Prelude.{◌≡◌, ◌≤◌, ℕ, List, [], length, map, 
 use Rattle.cops_types.specs.Histories.{Sessions, IsNamed}
 use Rattle.cops_types.specs.Faults.{Lists}
 use Rattle.cops_types.specs.Counts.{count_of}
-use Rattle.cops_types.specs.Recorded.{IsWithinLimits}
+use Rattle.cops_types.specs.Recorded.{IsWithinLimits, Recorded}
 use Rattle.cops_audit.specs.declared.summaries.Summary.{Summary}
 use Rattle.cops_audit.specs.declared.room.Scratch.{Scratch}
 use Rattle.cops_audit.specs.Floors.{AreFloors}
-use Rattle.cops_audit.specs.Keys.{AreFirsts, AreNexts}
+use Rattle.cops_audit.specs.KeyIndexes.{HasCapacity, IsKeyIndex}
 use Rattle.cops_audit.specs.Summaries.{Flat, IsSummarized}
 use Rattle.cops_audit.specs.Sweeps.{HasRoom, IsIdle}
 use Rattle.cops_audit.specs.Tables.{IsVersionTable}
@@ -18,9 +18,7 @@ pub record HasSpace (count : ℕ) (room : Scratch) : Type 0 where
   pub names : count ≤ vec_capacity room.names
   pub table : count ≤ vec_capacity room.table
   pub places : count ≤ vec_capacity room.places
-  pub nexts : count ≤ vec_capacity room.nexts
-  pub by_key : count ≤ vec_capacity room.by_key
-  pub firsts : count ≤ vec_capacity room.firsts
+  pub keys : HasCapacity count room.keys
   pub suspects : count ≤ vec_capacity room.suspects
   pub floors : count ≤ vec_capacity room.floors
   pub pending : count ≤ vec_capacity room.sweep.pending
@@ -59,11 +57,10 @@ pub record IsSummarizedIn (h : Sessions) (room : Scratch) (sessions : List (List
   pub few : length room.table.items ≤ count_of h
   pub summaries : IsSummarized h room.table.items sessions
 
--- the gets that may be stale are listed, with the tables that decide whether they are, and the sweep is at its start
-pub record IsSuspected (h : Sessions) (room : Scratch) (summaries : List (List Summary)) : Type 0 where
-  pub suspects : AreAllSuspects h room.table.items room.suspects.items
-  pub nexts : AreNexts h room.table.items room.nexts.items
-  pub firsts : AreFirsts h room.table.items room.firsts.items
+-- the gets that may be stale are listed, with the puts by their keys and with floors, and the sweep is at its start
+pub record IsSuspected (r : Recorded) (room : Scratch) (summaries : List (List Summary)) : Type 0 where
+  pub suspects : AreAllSuspects r.sessions room.table.items room.suspects.items
+  pub keys : IsKeyIndex r room.table.items room.keys
   pub floors : AreFloors room.suspects.items room.floors.items
-  pub idle : IsIdle (length h) (length room.table.items) room.sweep
+  pub idle : IsIdle (length r.sessions) (length room.table.items) room.sweep
   pub space : HasRoom room.space (map length summaries) room.sweep

@@ -3,6 +3,7 @@ use Rattle.std.specs.Prelude.{List}
 use Rattle.cops_types.specs.declared.op.OpName.{OpName}
 use Rattle.cops_types.specs.Histories.{Sessions, IsNamed}
 use Rattle.cops_types.specs.Faults.{Lists}
+use Rattle.cops_types.specs.Recorded.{IsWithinLimits}
 use Rattle.cops_types.specs.declared.versioned_put.VersionedPut.{VersionedPut}
 use Rattle.cops_audit.specs.Tables.{IsPutTable}
 
@@ -16,3 +17,4 @@ pub record Sorted : Type 0 where
 pub record IsSorted (s : Sorted) : Type 0 where
   pub names : Lists (λ n. n) (IsNamed s.sessions) s.names
   pub table : IsPutTable s.sessions s.table
+  pub limits : IsWithinLimits s.sessions

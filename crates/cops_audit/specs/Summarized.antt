@@ -3,6 +3,7 @@ use Rattle.std.specs.Prelude.{List}
 use Rattle.cops_types.specs.declared.op.OpName.{OpName}
 use Rattle.cops_types.specs.Histories.{Sessions, IsNamed}
 use Rattle.cops_types.specs.Faults.{Lists}
+use Rattle.cops_types.specs.Recorded.{IsWithinLimits}
 use Rattle.cops_types.specs.declared.versioned_put.VersionedPut.{VersionedPut}
 use Rattle.cops_audit.specs.declared.summaries.Summary.{Summary}
 use Rattle.cops_audit.specs.Summaries.{IsSummarized}
@@ -19,3 +20,4 @@ pub record AreTables (table : List VersionedPut) (summarized : Summarized) : Typ
   pub names : Lists (λ n. n) (IsNamed summarized.sessions) summarized.names
   pub puts : IsVersionTable summarized.sessions table
   pub summaries : IsSummarized summarized.sessions table summarized.summaries
+  pub limits : IsWithinLimits summarized.sessions

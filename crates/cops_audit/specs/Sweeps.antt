@@ -39,6 +39,13 @@ pub data SummaryPast (table : List VersionedPut) (summaries : List (List Summary
 abbrev pub InRange : OpRange → OpName → Type 0
 InRange range name = (name.client ≡ range.client) × (range.from ≤ name.index) × (name.index < range.to)
 
+-- the operation next after a range, and the range with it
+abbrev pub next_after : OpRange → OpName
+next_after range = record { client = range.client; index = range.to }
+
+abbrev pub with_next : OpRange → OpRange
+with_next range = record { client = range.client; from = range.from; to = range.to + 1 }
+
 abbrev pub InSome : List OpRange → OpName → Type 0
 InSome ranges name = (range : OpRange) × Contains ranges range × InRange range name
 

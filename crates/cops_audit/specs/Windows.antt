@@ -1,5 +1,5 @@
 -- Gets that may be stale.
-use Rattle.std.specs.Prelude.{◌≡◌, ◌<◌, ◌≤◌, ◌+◌, ◌⊎◌, ℕ, List, Option, Contains, AllPairs, length, sum_by, take}
+use Rattle.std.specs.Prelude.{◌≡◌, ◌<◌, ◌≤◌, ◌+◌, ◌⊎◌, ℕ, List, Option, Contains, AllPairs, length, slice_index_or, sum_by, take}
 use Rattle.cops_types.specs.declared.op.OpName.{OpName}
 use Rattle.cops_types.specs.Histories.{Sessions, IsGot, IsMissed, IsNamed, PutsKey, SourceStep}
 use Rattle.cops_types.specs.Faults.{IsBefore, IsNewer, Lists}
@@ -25,6 +25,10 @@ pub record IsSuspect (h : Sessions) (table : List VersionedPut) (suspect : Suspe
   pub newer : (place : ℕ) (put : OpName) (version : ℕ) → StandsAt table place put version → suspect.from ≤ place → HasFirst h table place suspect.first → WouldBeNewer h suspect.op put version
   pub source : (place : ℕ) (put : OpName) (version : ℕ) → StandsAt table place put version → SourceStep h put suspect.op → place < suspect.from
 
+-- no put in its past is newer than what it returned
+abbrev pub NoneNewer : Sessions → OpName → Type 0
+NoneNewer h name = (newer : OpName) (version : ℕ) → ¬ IsNewer h name newer version
+
 -- no put that would be newer is below the mark
 abbrev pub NoneWithin : Sessions → List VersionedPut → OpName → ℕ → Type 0
 NoneWithin h table name mark = (place : ℕ) (put : OpName) (version : ℕ) → StandsAt table place put version → WouldBeNewer h name put version → mark ≤ place
@@ -33,6 +37,11 @@ NoneWithin h table name mark = (place : ℕ) (put : OpName) (version : ℕ) → 
 pub record AreSuspects (h : Sessions) (table : List VersionedPut) (names : List OpName) (suspects : List Suspect) : Type 0 where
   pub each : (s : Suspect) → Contains suspects s → IsSuspect h table s × Contains names s.op
   pub others : (name newer : OpName) (version : ℕ) → Contains names name → IsNewer h name newer version → (s : Suspect) × (s.op ≡ name) × Contains suspects s
+  pub in_order : AllPairs (λ s t. IsBefore s.op t.op) suspects
+
+-- gets that may be stale, in order of names
+pub record AreSuspectsInOrder (h : Sessions) (table : List VersionedPut) (suspects : List Suspect) : Type 0 where
+  pub each : (k : ℕ) (d : Suspect) → k < length suspects → IsSuspect h table (slice_index_or suspects k d)
   pub in_order : AllPairs (λ s t. IsBefore s.op t.op) suspects
 
 -- the suspects among all names

@@ -9,9 +9,9 @@ ghost use Rattle.cops_audit.specs.Rooms.{Fits, IsFilled, IsSummarizedIn, IsReady
 ghost use Rattle.cops_audit.specs.SoFar.{HaveSourcesOrWait, IsMismatched, IsSoFar, IsWaiting};
 ghost use Rattle.cops_audit.specs.Tables.{IsVersionTable};
 
+use crate::analysis::Analysis;
 use crate::flat::FlatSummaries;
 use crate::floors::set_floors;
-use crate::keys::{link, set_firsts, set_keys};
 use crate::names::set_names;
 use crate::put_places::set_places;
 use crate::room::Scratch;
@@ -70,22 +70,23 @@ impl Scratch {
         requires sources { HaveSourcesOrWait history.now.sessions }
         requires above { AllAbove history.now.sessions }
         ensures ok { IsOk result }
-        ensures suspected { OnOk result (IsSuspected history.now.sessions self.new summaries.now) }
+        ensures suspected { OnOk result (IsSuspected history.now self.new summaries.now) }
         ensures ready { OnOk result (IsReady history.now.sessions self.new) }
         ensures space { OnOk result (self.new.space ≡ self.old.space) }
         ensures names { OnOk result (self.new.names ≡ self.old.names) }
         ensures table { OnOk result (self.new.table ≡ self.old.table) }
     {
-        let table = self.table.as_slice();
-        // `self.firsts` holds the numbers of the puts' keys until `set_firsts` overwrites it.
         let places = self.places.as_slice();
-        set_keys(&mut self.firsts, history, table, places)?;
-        let keys = self.firsts.as_slice();
-        link(&mut self.nexts, &mut self.by_key, history, table, keys)?;
-        let nexts = self.nexts.as_slice();
-        let by_key = self.by_key.as_slice();
-        set_suspects(&mut self.suspects, history, table, summaries, nexts, by_key)?;
-        set_firsts(&mut self.firsts, table, nexts)?;
+        self.keys.fill(history, self.table.as_slice(), places)?;
+        let analysis = Analysis {
+            history,
+            table: self.table.as_slice(),
+            summaries,
+            nexts: self.keys.nexts.as_slice(),
+            by_key: self.keys.by_key.as_slice(),
+            firsts: self.keys.firsts.as_slice(),
+        };
+        set_suspects(&mut self.suspects, &analysis)?;
         set_floors(&mut self.floors, self.suspects.as_slice())?;
         self.sweep.restart();
         Ok(())
@@ -105,19 +106,17 @@ impl Scratch {
         ensures names { OnOk result (self.new.names ≡ self.old.names) }
     {
         self.suspect(history, summaries)?;
-        let table = self.table.as_slice();
-        let firsts = self.firsts.as_slice();
+        let analysis = Analysis {
+            history,
+            table: self.table.as_slice(),
+            summaries,
+            nexts: self.keys.nexts.as_slice(),
+            by_key: self.keys.by_key.as_slice(),
+            firsts: self.keys.firsts.as_slice(),
+        };
         let suspects = self.suspects.as_slice();
         let floors = self.floors.as_slice();
-        let found = has_stale(
-            &mut self.sweep,
-            history,
-            table,
-            summaries,
-            firsts,
-            suspects,
-            floors,
-        )?;
+        let found = has_stale(&mut self.sweep, &analysis, suspects, floors)?;
         Ok(found)
     }
 

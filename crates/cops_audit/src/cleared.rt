@@ -1,24 +1,21 @@
 ghost use Rattle.std.specs.Prelude.{◌≡◌, ◌<◌, ◌≤◌, ◌+◌, ◌↔◌, ℕ, List, false, IfOk, IsTrue, OnOk, Some, length, map, replicate, slice_index, AllPairs};
 ghost use Rattle.cops_types.specs.declared.op.OpName.{OpName};
-ghost use Rattle.cops_types.specs.Histories.{Sessions};
 ghost use Rattle.cops_types.specs.Faults.{IsBefore};
-ghost use Rattle.cops_types.specs.Verdicts.{AllAbove};
+ghost use Rattle.cops_audit.specs.Analyses.{IsAnalysis};
 ghost use Rattle.cops_audit.specs.Clocks.{ArePassed, IsClearing, IsLeft, NoneCounted};
-ghost use Rattle.cops_audit.specs.Keys.{AreFirsts, AreNexts};
 ghost use Rattle.cops_audit.specs.Names.{ListsAmong};
-ghost use Rattle.cops_audit.specs.Summaries.{IsSummarized, summary_at};
-ghost use Rattle.cops_audit.specs.SoFar.{HaveSourcesOrWait};
-ghost use Rattle.cops_audit.specs.Sweeps.{AreRising, Counted};
-ghost use Rattle.cops_audit.specs.Tables.{IsVersionTable};
+ghost use Rattle.cops_audit.specs.Summaries.{summary_at};
+ghost use Rattle.cops_audit.specs.Sweeps.{Counted};
 ghost use Rattle.cops_audit.specs.Windows.{AreSuspects};
 ghost use Rattle.cops_audit.specs.declared.summaries.Summary.{Summary as ASummary};
 ghost use Rattle.cops_types.specs.declared.versioned_put.VersionedPut.{VersionedPut as APut};
 ghost use Rattle.cops_audit.specs.declared.window.Suspect.{Suspect as ASuspect};
 
+use crate::analysis::Analysis;
 use crate::clocks::{CHECKPOINT, Clocks};
-use crate::summaries::{Summaries, Summary};
+use crate::summaries::Summary;
 use crate::window::Suspect;
-use cops_types::{History, OpName, VersionedPut};
+use cops_types::OpName;
 use std::alloc::{AllocError, Global};
 
 /// The greatest number of clients with which `clear` runs. With more clients, tracking what every session knows of
@@ -57,18 +54,11 @@ fn is_counted(counts: &[u32], name: OpName) -> bool
 
 /// Whether the counts include none of the puts below `mark` that would be newer than what the suspect returned. Also
 /// false where the puts on its key are not linked from `suspect.from` on, or where they are more than `MOST_NEWER`.
-fn none_counted(
-    table: &[VersionedPut],
-    nexts: &[u32],
-    firsts: &[u32],
-    counts: &[u32],
-    mark: u32,
-    suspect: &Suspect,
-) -> bool
-    requires { (h : Sessions) × IsVersionTable h table.now × AreNexts h table.now nexts.now × AreFirsts h table.now firsts.now }
-    ensures { IsTrue result → NoneCounted table.now firsts.now counts.now mark suspect.now }
+fn none_counted(analysis: &Analysis, counts: &[u32], mark: u32, suspect: &Suspect) -> bool
+    requires { IsAnalysis analysis.now }
+    ensures { IsTrue result → NoneCounted analysis.now.table.now analysis.now.firsts.now counts.now mark suspect.now }
 {
-    match firsts.get(suspect.from as usize) {
+    match analysis.firsts.get(suspect.from as usize) {
         Some(first) if *first == suspect.first => {}
         _ => return false,
     }
@@ -77,12 +67,12 @@ fn none_counted(
         if place >= mark {
             return true;
         }
-        let put = table[place as usize];
+        let put = analysis.table[place as usize];
         if is_counted(counts, put.name) {
             return false;
         }
-        let next = nexts[place as usize];
-        if next as usize >= table.len() {
+        let next = analysis.nexts[place as usize];
+        if next as usize >= analysis.table.len() {
             return true;
         }
         place = next;
@@ -134,26 +124,15 @@ impl Clearing {
 
     /// Clears the client's next suspect if it is the operation `name` and `none_counted` finds that its session knows
     /// of no newer put.
-    fn look(
-        &mut self,
-        table: &[VersionedPut],
-        summaries: &Summaries,
-        nexts: &[u32],
-        firsts: &[u32],
-        suspects: &[Suspect],
-        name: OpName,
-        summary: Summary,
-    )
-        requires links { (h : Sessions) × IsVersionTable h table.now × AreNexts h table.now nexts.now × AreFirsts h table.now firsts.now }
-        requires rising { AreRising table.now summaries.now }
-        requires clearing { IsClearing table.now summaries.now firsts.now suspects.now self.old }
-        requires summarized { summary_at summaries.now name ≡ Some summary }
-        requires inside { name.client < length summaries.now }
+    fn look(&mut self, analysis: &Analysis, suspects: &[Suspect], name: OpName, summary: Summary)
+        requires analysis { IsAnalysis analysis.now }
+        requires clearing { IsClearing analysis.now.table.now analysis.now.summaries.now analysis.now.firsts.now suspects.now self.old }
+        requires summarized { summary_at analysis.now.summaries.now name ≡ Some summary }
+        requires inside { name.client < length analysis.now.summaries.now }
         requires passed { slice_index self.old.clocks.passed.items name.client ≡ name.index + 1 }
-        ensures clearing { IsClearing table.now summaries.now firsts.now suspects.now self.new }
+        ensures clearing { IsClearing analysis.now.table.now analysis.now.summaries.now analysis.now.firsts.now suspects.now self.new }
         ensures clocks { self.new.clocks ≡ self.old.clocks }
     {
-        let _ = summaries;
         let Some(next) = self.next.get_mut(name.client as usize) else {
             return;
         };
@@ -166,7 +145,7 @@ impl Clearing {
         }
         *next = place + 1;
         let known = self.clocks.known[name.client as usize].as_slice();
-        if none_counted(table, nexts, firsts, known, summary.mark, suspect) {
+        if none_counted(analysis, known, summary.mark, suspect) {
             self.cleared[place] = true;
             self.reported = self.reported.saturating_add(1);
         } else {
@@ -183,60 +162,43 @@ impl Clearing {
     /// where one got a put that was not passed before it or whose clock is not kept.
     fn pass_to(
         &mut self,
-        table: &[VersionedPut],
-        summaries: &Summaries,
-        nexts: &[u32],
-        firsts: &[u32],
+        analysis: &Analysis,
         suspects: &[Suspect],
         client: u16,
         end: u32,
     ) -> Result<bool, AllocError>
-        requires links { (h : Sessions) × IsVersionTable h table.now × AreNexts h table.now nexts.now × AreFirsts h table.now firsts.now }
-        requires rising { AreRising table.now summaries.now }
-        requires clearing { IsClearing table.now summaries.now firsts.now suspects.now self.old }
-        requires inside { client < length summaries.now }
-        ensures clearing { IfOk result (λ went. IsTrue went → IsClearing table.now summaries.now firsts.now suspects.now self.new) }
+        requires analysis { IsAnalysis analysis.now }
+        requires clearing { IsClearing analysis.now.table.now analysis.now.summaries.now analysis.now.firsts.now suspects.now self.old }
+        requires inside { client < length analysis.now.summaries.now }
+        ensures clearing { IfOk result (λ went. IsTrue went → IsClearing analysis.now.table.now analysis.now.summaries.now analysis.now.firsts.now suspects.now self.new) }
         ensures passed { IfOk result (λ went. IsTrue went → end ≤ slice_index self.new.clocks.passed.items client) }
         ensures kept { IfOk result (λ went. IsTrue went → (k : ℕ) → slice_index self.old.clocks.passed.items k ≤ slice_index self.new.clocks.passed.items k) }
     {
-        let session = summaries.session(client);
+        let session = analysis.summaries.session(client);
         for index in self.clocks.passed[client as usize]..end {
             let Some(summary) = session.get(index as usize) else {
                 return Ok(false);
             };
-            if !self
-                .clocks
-                .pass(table, summaries, client as usize, *summary)?
-            {
+            if !self.clocks.pass(analysis, client as usize, *summary)? {
                 return Ok(false);
             }
             let name = OpName { client, index };
-            self.look(table, summaries, nexts, firsts, suspects, name, *summary);
+            self.look(analysis, suspects, name, *summary);
         }
         Ok(true)
     }
 
     /// Passes the remaining operations of all sessions. Returns false where one of them got a put that was not passed
     /// before it or whose clock is not kept.
-    fn pass_rest(
-        &mut self,
-        history: &History,
-        table: &[VersionedPut],
-        summaries: &Summaries,
-        nexts: &[u32],
-        firsts: &[u32],
-        suspects: &[Suspect],
-    ) -> Result<bool, AllocError>
-        requires links { IsVersionTable history.now.sessions table.now × AreNexts history.now.sessions table.now nexts.now × AreFirsts history.now.sessions table.now firsts.now }
-        requires summarized { IsSummarized history.now.sessions table.now summaries.now }
-        requires rising { AreRising table.now summaries.now }
-        requires clearing { IsClearing table.now summaries.now firsts.now suspects.now self.old }
-        ensures { IfOk result (λ went. IsTrue went → IsClearing table.now summaries.now firsts.now suspects.now self.new) }
+    fn pass_rest(&mut self, analysis: &Analysis, suspects: &[Suspect]) -> Result<bool, AllocError>
+        requires analysis { IsAnalysis analysis.now }
+        requires clearing { IsClearing analysis.now.table.now analysis.now.summaries.now analysis.now.firsts.now suspects.now self.old }
+        ensures { IfOk result (λ went. IsTrue went → IsClearing analysis.now.table.now analysis.now.summaries.now analysis.now.firsts.now suspects.now self.new) }
     {
-        for client in 0..history.clients() {
+        for client in 0..analysis.history.clients() {
             let client = client as u16;
-            let end = history.session_len(client) as u32;
-            if !self.pass_to(table, summaries, nexts, firsts, suspects, client, end)? {
+            let end = analysis.history.session_len(client) as u32;
+            if !self.pass_to(analysis, suspects, client, end)? {
                 return Ok(false);
             }
         }
@@ -261,23 +223,17 @@ impl Clearing {
     fn pass_all(
         &mut self,
         alloc: Global,
-        history: &History,
-        table: &[VersionedPut],
-        summaries: &Summaries,
-        nexts: &[u32],
-        firsts: &[u32],
+        analysis: &Analysis,
         suspects: &[Suspect],
     ) -> Result<bool, AllocError>
-        requires links { IsVersionTable history.now.sessions table.now × AreNexts history.now.sessions table.now nexts.now × AreFirsts history.now.sessions table.now firsts.now }
-        requires summarized { IsSummarized history.now.sessions table.now summaries.now }
-        requires rising { AreRising table.now summaries.now }
-        requires clearing { IsClearing table.now summaries.now firsts.now suspects.now self.old }
-        ensures { IfOk result (λ went. IsTrue went → IsClearing table.now summaries.now firsts.now suspects.now self.new) }
+        requires analysis { IsAnalysis analysis.now }
+        requires clearing { IsClearing analysis.now.table.now analysis.now.summaries.now analysis.now.firsts.now suspects.now self.old }
+        ensures { IfOk result (λ went. IsTrue went → IsClearing analysis.now.table.now analysis.now.summaries.now analysis.now.firsts.now suspects.now self.new) }
     {
-        for place in 0..table.len() {
-            let put = table[place].name;
+        for place in 0..analysis.table.len() {
+            let put = analysis.table[place].name;
             let end = put.index + 1;
-            if !self.pass_to(table, summaries, nexts, firsts, suspects, put.client, end)? {
+            if !self.pass_to(analysis, suspects, put.client, end)? {
                 return Ok(false);
             }
             if self.is_in_vain() {
@@ -285,7 +241,7 @@ impl Clearing {
             }
             self.keep_passed(alloc, place as u32 + 1)?;
         }
-        self.pass_rest(history, table, summaries, nexts, firsts, suspects)
+        self.pass_rest(analysis, suspects)
     }
 }
 
@@ -313,28 +269,20 @@ fn left_suspects(
 pub fn clear(
     suspects: &mut Vec<Suspect>,
     alloc: Global,
-    history: &History,
-    table: &[VersionedPut],
-    summaries: &Summaries,
-    nexts: &[u32],
-    firsts: &[u32],
+    analysis: &Analysis,
 ) -> Result<(), AllocError>
-    requires table { IsVersionTable history.now.sessions table.now }
-    requires summaries { IsSummarized history.now.sessions table.now summaries.now }
-    requires nexts { AreNexts history.now.sessions table.now nexts.now }
-    requires firsts { AreFirsts history.now.sessions table.now firsts.now }
-    requires sources { HaveSourcesOrWait history.now.sessions }
-    requires above { AllAbove history.now.sessions }
-    requires suspects { (names : List OpName) × AreSuspects history.now.sessions table.now names suspects.old.items }
-    ensures { OnOk result ((names : List OpName) → AreSuspects history.now.sessions table.now names suspects.old.items → AreSuspects history.now.sessions table.now names suspects.new.items) }
+    requires analysis { IsAnalysis analysis.now }
+    requires suspects { (names : List OpName) × AreSuspects analysis.now.history.now.sessions analysis.now.table.now names suspects.old.items }
+    ensures { OnOk result ((names : List OpName) → AreSuspects analysis.now.history.now.sessions analysis.now.table.now names suspects.old.items
+        → AreSuspects analysis.now.history.now.sessions analysis.now.table.now names suspects.new.items) }
 {
-    let clients = history.clients();
-    if clients > MOST_CLIENTS || suspects.len() < history.len() / OPS_OF_A_SUSPECT {
+    let clients = analysis.history.clients();
+    if clients > MOST_CLIENTS || suspects.len() < analysis.history.len() / OPS_OF_A_SUSPECT {
         return Ok(());
     }
-    let mut clearing = Clearing::new(alloc, clients, table.len(), suspects.as_slice())?;
-    let seen = suspects.as_slice();
-    if !clearing.pass_all(alloc, history, table, summaries, nexts, firsts, seen)? {
+    let puts = analysis.table.len();
+    let mut clearing = Clearing::new(alloc, clients, puts, suspects.as_slice())?;
+    if !clearing.pass_all(alloc, analysis, suspects.as_slice())? {
         return Ok(());
     }
     let left = left_suspects(alloc, suspects.as_slice(), clearing.cleared.as_slice())?;

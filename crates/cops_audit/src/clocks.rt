@@ -1,5 +1,6 @@
 ghost use Rattle.cops_types.specs.declared.limits.TheConstants.{MAX_CLIENT_OPS, MAX_OPS};
 ghost use Rattle.std.specs.Prelude.{◌≡◌, ◌<◌, ◌≤◌, ◌+◌, ℕ, List, IfOk, IfSome, IsTrue, OnOk, Some, length, map, replicate, slice_index, slice_index_or, vec_len, []};
+ghost use Rattle.cops_audit.specs.Analyses.{IsAnalysis};
 ghost use Rattle.cops_audit.specs.Clocks.{AreClocks, AreKnown, ArePassed, KnowsPut};
 ghost use Rattle.cops_types.specs.declared.op.OpName.{OpName};
 ghost use Rattle.cops_audit.specs.Summaries.{StandsAt, summary_at};
@@ -7,7 +8,8 @@ ghost use Rattle.cops_audit.specs.Sweeps.{AreRising};
 ghost use Rattle.cops_audit.specs.declared.summaries.Summary.{Summary as ASummary};
 ghost use Rattle.cops_types.specs.declared.versioned_put.VersionedPut.{VersionedPut as APut};
 
-use crate::summaries::{OpPlace, Summaries, Summary};
+use crate::analysis::Analysis;
+use crate::summaries::{OpPlace, Summary};
 use cops_types::VersionedPut;
 use std::alloc::{AllocError, Global};
 
@@ -212,21 +214,19 @@ impl Clocks {
     /// was not passed before, or whose clock is not kept.
     pub fn pass(
         &mut self,
-        table: &[VersionedPut],
-        summaries: &Summaries,
+        analysis: &Analysis,
         client: usize,
         summary: Summary,
     ) -> Result<bool, AllocError>
-        requires client { client < length summaries.now }
-        requires rising { AreRising table.now summaries.now }
-        requires clocks { AreClocks table.now summaries.now self.old }
-        requires summarized { summary_at summaries.now (record { client = client; index = slice_index self.old.passed.items client }) ≡ Some summary }
-        ensures clocks { IfOk result (λ went. IsTrue went → AreClocks table.now summaries.now self.new) }
+        requires client { client < length analysis.now.summaries.now }
+        requires analysis { IsAnalysis analysis.now }
+        requires clocks { AreClocks analysis.now.table.now analysis.now.summaries.now self.old }
+        requires summarized { summary_at analysis.now.summaries.now (record { client = client; index = slice_index self.old.passed.items client }) ≡ Some summary }
+        ensures clocks { IfOk result (λ went. IsTrue went → AreClocks analysis.now.table.now analysis.now.summaries.now self.new) }
         ensures next { IfOk result (λ went. IsTrue went → slice_index self.new.passed.items client ≡ slice_index self.old.passed.items client + 1) }
         ensures kept { IfOk result (λ went. IsTrue went → (k : ℕ) → slice_index self.old.passed.items k ≤ slice_index self.new.passed.items k) }
     {
-        let _ = summaries;
-        if !self.learn_seen(table, client, summary.seen) {
+        if !self.learn_seen(analysis.table, client, summary.seen) {
             return Ok(false);
         }
         self.count_next(client);

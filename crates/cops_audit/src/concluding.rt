@@ -9,6 +9,7 @@ ghost use Rattle.cops_audit.specs.SoFar.{HaveSourcesOrWait};
 ghost use Rattle.cops_audit.specs.Tables.{IsVersionTable};
 ghost use Rattle.cops_audit.specs.Verdicts.{IsVerdict};
 
+use crate::analysis::{Analysis, PutIndex};
 use crate::cleared::clear;
 use crate::climbing::not_above;
 use crate::floors::set_floors;
@@ -64,25 +65,22 @@ impl Scratch {
         history: &History,
         summaries: &Summaries,
     ) -> Result<(), AllocError>
-        requires suspected { IsSuspected history.now.sessions self.old summaries.now }
+        requires suspected { IsSuspected history.now self.old summaries.now }
         requires summarized { IsSummarizedIn history.now.sessions self.old summaries.now }
         requires sources { HaveSourcesOrWait history.now.sessions }
         requires above { AllAbove history.now.sessions }
-        ensures suspected { OnOk result (IsSuspected history.now.sessions self.new summaries.now) }
+        ensures suspected { OnOk result (IsSuspected history.now self.new summaries.now) }
         ensures table { OnOk result (self.new.table ≡ self.old.table) }
     {
-        let table = self.table.as_slice();
-        let nexts = self.nexts.as_slice();
-        let firsts = self.firsts.as_slice();
-        clear(
-            &mut self.suspects,
-            alloc,
+        let analysis = Analysis {
             history,
-            table,
+            table: self.table.as_slice(),
             summaries,
-            nexts,
-            firsts,
-        )?;
+            nexts: self.keys.nexts.as_slice(),
+            by_key: self.keys.by_key.as_slice(),
+            firsts: self.keys.firsts.as_slice(),
+        };
+        clear(&mut self.suspects, alloc, &analysis)?;
         set_floors(&mut self.floors, self.suspects.as_slice())?;
         Ok(())
     }
@@ -104,24 +102,19 @@ impl Scratch {
     {
         self.suspect(history, summaries)?;
         self.clear_suspects(alloc, history, summaries)?;
-        // The places and the links are dropped before the sweep allocates memory.
+        // The places are dropped before the sweep allocates memory.
         self.places = Vec::new(alloc);
-        self.nexts = Vec::new(alloc);
-        self.by_key = Vec::new(alloc);
-        let table = self.table.as_slice();
-        let firsts = self.firsts.as_slice();
+        let analysis = Analysis {
+            history,
+            table: self.table.as_slice(),
+            summaries,
+            nexts: self.keys.nexts.as_slice(),
+            by_key: self.keys.by_key.as_slice(),
+            firsts: self.keys.firsts.as_slice(),
+        };
         let suspects = self.suspects.as_slice();
         let floors = self.floors.as_slice();
-        let faults = stale_suspects(
-            alloc,
-            &mut self.sweep,
-            history,
-            table,
-            summaries,
-            firsts,
-            suspects,
-            floors,
-        )?;
+        let faults = stale_suspects(alloc, &mut self.sweep, &analysis, suspects, floors)?;
         Ok(faults)
     }
 
@@ -166,9 +159,13 @@ impl Scratch {
         }
         let table = self.table.as_slice();
         set_places(&mut self.places, history, table)?;
-        let places = self.places.as_slice();
-        let sources = sources.places.as_slice();
-        let session_summaries = SessionSummaries::new(alloc, history, table, places, sources)?;
+        let index = PutIndex {
+            history,
+            table: self.table.as_slice(),
+            places: self.places.as_slice(),
+            sources: sources.places.as_slice(),
+        };
+        let session_summaries = SessionSummaries::new(alloc, &index)?;
         let summaries = session_summaries.look();
         let stale = self.stale(alloc, history, &summaries)?;
         if !stale.is_empty() {

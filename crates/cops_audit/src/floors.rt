@@ -1,13 +1,13 @@
-ghost use Rattle.std.specs.Prelude.{◌≡◌, ◌<◌, ◌≤◌, ◌+◌, ◌-◌, ℕ, IfOk, IfSome, IfNone, IsOk, OnOk, IsTrue, length, map, slice_index_or, vec_capacity, AllPairs};
-ghost use Rattle.cops_types.specs.Faults.{IsBefore};
+ghost use Rattle.std.specs.Prelude.{◌≡◌, ◌<◌, ◌≤◌, ◌+◌, ◌-◌, ℕ, IfOk, IfSome, IfNone, IsOk, OnOk, IsTrue, length, map, slice_index_or, vec_capacity};
 ghost use Rattle.cops_audit.specs.declared.window.Suspect.{Suspect};
-ghost use Rattle.cops_audit.specs.Sweeps.{ArePlaces, AreRising, HasRoom, IsNewestIn, NoneFrom};
-ghost use Rattle.cops_audit.specs.Floors.{AreFloors, IsAfter, IsSummarizedSuspect};
+ghost use Rattle.cops_audit.specs.Analyses.{IsAnalysis};
+ghost use Rattle.cops_audit.specs.Sweeps.{HasRoom};
+ghost use Rattle.cops_audit.specs.Floors.{AreFloors, HasNoNewer, IsAfter, IsNewestFor};
+ghost use Rattle.cops_audit.specs.Windows.{AreSuspectsInOrder};
 
-use crate::summaries::Summaries;
+use crate::analysis::Analysis;
 use crate::sweep::Sweep;
 use crate::window::Suspect;
-use cops_types::VersionedPut;
 use std::alloc::{AllocError, Global};
 
 /// Whether the next suspect is of the same client.
@@ -60,29 +60,25 @@ fn follows(suspects: &[Suspect], k: usize) -> bool
 /// sweep must have come as far as the suspect before.
 pub fn judge_next(
     sweep: &mut Sweep,
-    table: &[VersionedPut],
-    summaries: &Summaries,
-    firsts: &[u32],
+    analysis: &Analysis,
     suspects: &[Suspect],
     floors: &[u32],
     k: usize,
 ) -> Result<Option<u32>, AllocError>
-    requires rising { AreRising table.now summaries.now }
-    requires firsts { ArePlaces table.now firsts.now }
+    requires analysis { IsAnalysis analysis.now }
     requires floors { AreFloors suspects.now floors.now }
-    requires in_order { AllPairs (λ s t. IsBefore s.op t.op) suspects.now }
+    requires suspects { AreSuspectsInOrder analysis.now.history.now.sessions analysis.now.table.now suspects.now }
     requires inside { k < length suspects.now }
-    requires summarized { (d : Suspect) → IsSummarizedSuspect summaries.now (slice_index_or suspects.now k d) }
-    requires after { IsAfter table.now summaries.now firsts.now suspects.now floors.now k sweep.old }
-    ensures after { OnOk result (IsAfter table.now summaries.now firsts.now suspects.now floors.now (k + 1) sweep.new) }
-    ensures found { IfOk result (λ found. IfSome found (λ place. (d : Suspect) → ((slice_index_or suspects.now k d).from ≤ place) × IsNewestIn table.now summaries.now firsts.now (slice_index_or suspects.now k d).op (slice_index_or suspects.now k d).first place)) }
-    ensures none { IfOk result (λ found. IfNone found ((d : Suspect) → NoneFrom table.now summaries.now firsts.now (slice_index_or suspects.now k d).op (slice_index_or suspects.now k d).first (slice_index_or suspects.now k d).from)) }
-    ensures room { (space : ℕ) → HasRoom space (map length summaries.now) sweep.old
-        → IsOk result × HasRoom space (map length summaries.now) sweep.new }
+    requires after { IsAfter analysis.now.table.now analysis.now.summaries.now analysis.now.firsts.now suspects.now floors.now k sweep.old }
+    ensures after { OnOk result (IsAfter analysis.now.table.now analysis.now.summaries.now analysis.now.firsts.now suspects.now floors.now (k + 1) sweep.new) }
+    ensures found { IfOk result (λ found. IfSome found (λ place. (d : Suspect) → IsNewestFor analysis.now (slice_index_or suspects.now k d) place)) }
+    ensures none { IfOk result (λ found. IfNone found ((d : Suspect) → HasNoNewer analysis.now (slice_index_or suspects.now k d))) }
+    ensures room { (space : ℕ) → HasRoom space (map length analysis.now.summaries.now) sweep.old
+        → IsOk result × HasRoom space (map length analysis.now.summaries.now) sweep.new }
 {
     if !follows(suspects, k) {
         sweep.restart();
     }
-    let found = sweep.newest_in_past(table, summaries, firsts, floors[k], suspects[k])?;
+    let found = sweep.newest_in_past(analysis, floors[k], suspects[k])?;
     Ok(found)
 }

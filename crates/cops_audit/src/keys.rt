@@ -151,17 +151,3 @@ pub fn set_firsts(
     }
     Ok(())
 }
-
-/// For each put, the place of the first put on its key, computed from the links alone.
-pub fn passed_firsts(
-    alloc: Global,
-    table: &[VersionedPut],
-    nexts: &[u32],
-) -> Result<Vec<u32>, AllocError>
-    requires { (h : Sessions) × IsVersionTable h table.now × AreNexts h table.now nexts.now }
-    ensures { (h : Sessions) → IsVersionTable h table.now → AreNexts h table.now nexts.now → IfOk result (λ v. AreFirsts h table.now v.items) }
-{
-    let mut places = Vec::new(alloc);
-    set_firsts(&mut places, table, nexts)?;
-    Ok(places)
-}

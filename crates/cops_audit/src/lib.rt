@@ -9,6 +9,7 @@
 //! single operations put and got.
 #![tactic(auto)]
 
+mod analysis;
 mod assessing;
 mod cleared;
 mod climbing;
@@ -22,9 +23,9 @@ mod floors;
 mod hints;
 mod judged;
 mod judging;
+mod key_index;
 mod keys;
 mod laws;
-mod links;
 mod names;
 mod online;
 mod op_version;

@@ -54,6 +54,7 @@ impl<'a> Puts<'a> {
     ghost use Rattle.std.specs.Prelude.{◌≡◌, ◌≤◌, ◌+◌, IfOk, IfSome, IfNone, IsTrue, length, slice_range, AllPairs};
     ghost use Rattle.cops_types.specs.Faults.{HasNoSource, IsBefore, IsNotAbove, Lists};
     ghost use Rattle.cops_types.specs.Histories.{IsNamed};
+    ghost use Rattle.cops_types.specs.Recorded.{IsWithinLimits};
     ghost use Rattle.cops_types.specs.Verdicts.{AllAbove, AllHaveSources};
     ghost use Rattle.cops_types.specs.VersionOrder.{IsDoubled};
     ghost use Rattle.cops_audit.specs.Names.{ListsAmong};
@@ -94,7 +95,8 @@ impl<'a> Puts<'a> {
                 ensures { IfOk result (λ v. Lists (λ n. n) (IsNamed history.entry.now.sessions) v.items) }
             { all_names(alloc, history) },
             || -> Result<Vec<VersionedPut>, AllocError>
-                ensures { IfOk result (λ v. IsPutTable history.entry.now.sessions v.items) }
+                ensures puts { IfOk result (λ v. IsPutTable history.entry.now.sessions v.items) }
+                ensures limits { IfOk result (λ _. IsWithinLimits history.entry.now.sessions) }
             { puts_by_version(alloc, history) },
         );
         let names = names?;

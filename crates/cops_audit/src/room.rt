@@ -3,6 +3,7 @@ ghost use Rattle.std.specs.Prelude.{◌≤◌, IfOk, OnOk, replicate, vec_capaci
 ghost use Rattle.cops_audit.specs.Rooms.{IsReady};
 
 use crate::flat::FlatSummaries;
+use crate::key_index::KeyIndex;
 use crate::sweep::{OpRange, Sweep};
 use crate::window::Suspect;
 use cops_types::{History, OpName, VersionedPut};
@@ -18,9 +19,7 @@ pub struct Scratch {
     pub names: Vec<OpName>,
     pub table: Vec<VersionedPut>,
     pub places: Vec<u32>,
-    pub nexts: Vec<u32>,
-    pub by_key: Vec<Option<u32>>,
-    pub firsts: Vec<u32>,
+    pub keys: KeyIndex,
     pub suspects: Vec<Suspect>,
     pub floors: Vec<u32>,
     pub sweep: Sweep,
@@ -56,9 +55,7 @@ impl Scratch {
             names: Vec::new(alloc),
             table: Vec::new(alloc),
             places: Vec::new(alloc),
-            nexts: Vec::new(alloc),
-            by_key: Vec::new(alloc),
-            firsts: Vec::new(alloc),
+            keys: KeyIndex::empty(alloc),
             suspects: Vec::new(alloc),
             floors: Vec::new(alloc),
             sweep,
@@ -84,9 +81,9 @@ impl Scratch {
         make_room(&mut self.names, space)?;
         make_room(&mut self.table, space)?;
         make_room(&mut self.places, space)?;
-        make_room(&mut self.nexts, space)?;
-        make_room(&mut self.by_key, space)?;
-        make_room(&mut self.firsts, space)?;
+        make_room(&mut self.keys.nexts, space)?;
+        make_room(&mut self.keys.by_key, space)?;
+        make_room(&mut self.keys.firsts, space)?;
         make_room(&mut self.suspects, space)?;
         make_room(&mut self.floors, space)?;
         make_room(&mut self.sweep.pending, space)?;

@@ -4,12 +4,13 @@ ghost use Rattle.cops_types.specs.declared.op.OpName.{OpName};
 ghost use Rattle.cops_types.specs.Histories.{IsNamed};
 ghost use Rattle.cops_types.specs.Operations.{GetsVersion};
 ghost use Rattle.cops_types.specs.Faults.{IsBefore};
+ghost use Rattle.cops_audit.specs.Analyses.{IsPutIndex};
 ghost use Rattle.cops_audit.specs.Names.{ListsAmong};
 ghost use Rattle.cops_audit.specs.Summaries.{above as above_of, ArePrefixesSummarized, AreLongEnough, AreMarks, HasDone, IsPrefixSummarized, IsMark, IsSeen, IsSourceless};
-ghost use Rattle.cops_audit.specs.Placing.{ArePutPlaces, AreSourcePlaces};
 ghost use Rattle.cops_audit.specs.Tables.{IsVersionTable};
 ghost use Rattle.cops_types.specs.declared.versioned_put.VersionedPut.{VersionedPut};
 
+use crate::analysis::PutIndex;
 use crate::flat::Span;
 use crate::hints::hinted_place;
 use crate::op_version::OpVersion;
@@ -86,50 +87,34 @@ fn see_source(history: &History, table: &[VersionedPut], got: OpName, place: usi
 
 /// What an operation did, where it is a put or a get whose put is known to the history or is in `sources`; otherwise
 /// `None`.
-fn see_named(
-    history: &History,
-    table: &[VersionedPut],
-    places: &[u32],
-    sources: &[u32],
-    name: OpName,
-) -> Option<OpPlace>
-    requires table { IsVersionTable history.now.sessions table.now }
-    requires places { ArePutPlaces history.now.puts table.now places.now }
-    requires sources { AreSourcePlaces history.now table.now sources.now }
-    ensures { IfSome result (IsSeen history.now.sessions table.now name) }
+fn see_named(index: &PutIndex, name: OpName) -> Option<OpPlace>
+    requires { IsPutIndex index.now }
+    ensures { IfSome result (IsSeen index.now.history.now.sessions index.now.table.now name) }
 {
-    if let Some(number) = history.source_number(name) {
-        let place = place_at(places, number)?;
+    if let Some(number) = index.history.source_number(name) {
+        let place = place_at(index.places, number)?;
         return Some(OpPlace::Got(place));
     }
-    if let Some(number) = history.put_number(name) {
-        let place = place_at(places, number)?;
+    if let Some(number) = index.history.put_number(name) {
+        let place = place_at(index.places, number)?;
         return Some(OpPlace::Put(place));
     }
-    let number = history.pending_number(name)?;
-    let place = place_at(sources, number)?;
+    let number = index.history.pending_number(name)?;
+    let place = place_at(index.sources, number)?;
     Some(OpPlace::Got(place))
 }
 
 /// What an operation did, by a search in the table where its put is not known.
-fn see_placed(
-    history: &History,
-    table: &[VersionedPut],
-    places: &[u32],
-    sources: &[u32],
-    name: OpName,
-) -> OpPlace
-    requires table { IsVersionTable history.now.sessions table.now }
-    requires places { ArePutPlaces history.now.puts table.now places.now }
-    requires sources { AreSourcePlaces history.now table.now sources.now }
-    requires named { IsNamed history.now.sessions name }
-    ensures { IsSeen history.now.sessions table.now name result }
+fn see_placed(index: &PutIndex, name: OpName) -> OpPlace
+    requires index { IsPutIndex index.now }
+    requires named { IsNamed index.now.history.now.sessions name }
+    ensures { IsSeen index.now.history.now.sessions index.now.table.now name result }
 {
-    if let Some(seen) = see_named(history, table, places, sources, name) {
+    if let Some(seen) = see_named(index, name) {
         return seen;
     }
-    let op_version = OpVersion::of(history, name);
-    see(history, table, NO_PLACE, name, &op_version)
+    let op_version = OpVersion::of(index.history, name);
+    see(index.history, index.table, NO_PLACE, name, &op_version)
 }
 
 impl OpPlace {
@@ -159,30 +144,25 @@ fn last_mark(summaries: &[Summary]) -> u32
 /// Extends the summaries of a session, until its mark is above a place.
 fn summary_on(
     summaries: &mut Vec<Summary>,
-    history: &History,
-    table: &[VersionedPut],
-    places: &[u32],
-    sources: &[u32],
+    index: &PutIndex,
     client: u16,
     place: usize,
 ) -> Result<(), AllocError>
-    requires table { IsVersionTable history.now.sessions table.now }
-    requires places { ArePutPlaces history.now.puts table.now places.now }
-    requires sources { AreSourcePlaces history.now table.now sources.now }
-    requires prefix { IsPrefixSummarized history.now.sessions table.now client summaries.old.items }
-    ensures prefix { OnOk result (IsPrefixSummarized history.now.sessions table.now client summaries.new.items) }
-    ensures whole { OnOk result (length table.now ≤ place → length (slice_index_or history.now.sessions client []) ≤ vec_len summaries.new) }
+    requires index { IsPutIndex index.now }
+    requires prefix { IsPrefixSummarized index.now.history.now.sessions index.now.table.now client summaries.old.items }
+    ensures prefix { OnOk result (IsPrefixSummarized index.now.history.now.sessions index.now.table.now client summaries.new.items) }
+    ensures whole { OnOk result (length index.now.table.now ≤ place → length (slice_index_or index.now.history.now.sessions client []) ≤ vec_len summaries.new) }
 {
     let mut mark = last_mark(summaries.as_slice());
-    for index in summaries.len()..history.session_len(client) {
+    for number in summaries.len()..index.history.session_len(client) {
         if mark as usize > place {
             return Ok(());
         }
         let name = OpName {
             client,
-            index: index as u32,
+            index: number as u32,
         };
-        let seen = see_placed(history, table, places, sources, name);
+        let seen = see_placed(index, name);
         mark = mark.max(seen.above());
         summaries.push(Summary { seen, mark })?;
     }
@@ -192,34 +172,21 @@ fn summary_on(
 /// Extends the summaries of the sessions of the clients from `first` on, until each session's mark is above a place.
 fn summary_all(
     sessions: &mut Vec<Vec<Summary>>,
-    history: &History,
-    table: &[VersionedPut],
-    places: &[u32],
-    sources: &[u32],
+    index: &PutIndex,
     first: usize,
     place: usize,
 ) -> Result<(), AllocError>
-    requires table { IsVersionTable history.now.sessions table.now }
-    requires places { ArePutPlaces history.now.puts table.now places.now }
-    requires sources { AreSourcePlaces history.now table.now sources.now }
+    requires index { IsPutIndex index.now }
     requires few { first + length sessions.old.items ≤ MAX_CLIENTS }
-    requires prefixes { ArePrefixesSummarized history.now.sessions table.now first (map (λ s. s.items) sessions.old.items) }
+    requires prefixes { ArePrefixesSummarized index.now.history.now.sessions index.now.table.now first (map (λ s. s.items) sessions.old.items) }
     ensures count { length sessions.new.items ≡ length sessions.old.items }
-    ensures prefixes { OnOk result (ArePrefixesSummarized history.now.sessions table.now first (map (λ s. s.items) sessions.new.items)) }
-    ensures whole { OnOk result (length table.now ≤ place → AreLongEnough history.now.sessions first (length sessions.new.items) (map (λ s. s.items) sessions.new.items)) }
+    ensures prefixes { OnOk result (ArePrefixesSummarized index.now.history.now.sessions index.now.table.now first (map (λ s. s.items) sessions.new.items)) }
+    ensures whole { OnOk result (length index.now.table.now ≤ place → AreLongEnough index.now.history.now.sessions first (length sessions.new.items) (map (λ s. s.items) sessions.new.items)) }
 {
     for k in 0..sessions.len() {
         let summaries = &mut sessions[k];
         let client = first + k;
-        summary_on(
-            summaries,
-            history,
-            table,
-            places,
-            sources,
-            client as u16,
-            place,
-        )?;
+        summary_on(summaries, index, client as u16, place)?;
     }
     Ok(())
 }
@@ -262,56 +229,38 @@ impl SessionSummaries {
     ghost use Rattle.cops_types.specs.declared.versioned_put.VersionedPut.{VersionedPut};
     ghost use Rattle.std.specs.Prelude.{◌≡◌, ◌≤◌, ℕ, List, IfOk, length};
     ghost use Rattle.cops_audit.specs.Summaries.{AreSummarized, IsSummarized};
-    ghost use Rattle.cops_audit.specs.Placing.{ArePutPlaces, AreSourcePlaces};
-    ghost use Rattle.cops_audit.specs.Tables.{IsVersionTable};
+    ghost use Rattle.cops_audit.specs.Analyses.{IsPutIndex};
 
     /// The causal summaries of all operations, from the places of the puts and of the sources of pending reads.
-    pub fn new(
-        alloc: Global,
-        history: &History,
-        table: &[VersionedPut],
-        places: &[u32],
-        sources: &[u32],
-    ) -> Result<Self, AllocError>
-        requires table { IsVersionTable history.now.sessions table.now }
-        requires places { ArePutPlaces history.now.puts table.now places.now }
-        requires sources { AreSourcePlaces history.now table.now sources.now }
-        ensures { IfOk result (λ summaries. IsSummarized history.now.sessions table.now summaries) }
+    pub fn new(alloc: Global, index: &PutIndex) -> Result<Self, AllocError>
+        requires { IsPutIndex index.now }
+        ensures { IfOk result (λ summaries. IsSummarized index.now.history.now.sessions index.now.table.now summaries) }
     {
-        let clients = history.clients();
-        let summaries = SessionSummaries::on_clients(
-            alloc, history, table, places, sources, 0, clients,
-        )?;
+        let summaries = SessionSummaries::on_clients(alloc, index, 0, index.history.clients())?;
         Ok(summaries)
     }
 
     /// The causal summaries of the operations of the clients from `first` up to `end`.
     pub fn on_clients(
         alloc: Global,
-        history: &History,
-        table: &[VersionedPut],
-        places: &[u32],
-        sources: &[u32],
+        index: &PutIndex,
         first: usize,
         end: usize,
     ) -> Result<Self, AllocError>
-        requires table { IsVersionTable history.now.sessions table.now }
-        requires places { ArePutPlaces history.now.puts table.now places.now }
-        requires sources { AreSourcePlaces history.now table.now sources.now }
+        requires index { IsPutIndex index.now }
         requires first { first ≤ end }
-        requires end { end ≤ length history.now.sessions }
-        ensures some { IfOk result (AreSummarized history.now.sessions table.now first end) }
-        ensures all { IfOk result (λ summaries. first ≡ 0 → end ≡ length history.now.sessions → IsSummarized history.now.sessions table.now summaries) }
+        requires end { end ≤ length index.now.history.now.sessions }
+        ensures some { IfOk result (AreSummarized index.now.history.now.sessions index.now.table.now first end) }
+        ensures all { IfOk result (λ summaries. first ≡ 0 → end ≡ length index.now.history.now.sessions → IsSummarized index.now.history.now.sessions index.now.table.now summaries) }
     {
-        let end = end.min(history.clients());
-        let mut sessions = no_summaries(alloc, history, first, end)?;
+        let end = end.min(index.history.clients());
+        let mut sessions = no_summaries(alloc, index.history, first, end)?;
         let step = STEP.max(4 * sessions.len());
-        for round in 0..table.len() / step {
+        for round in 0..index.table.len() / step {
             let place = step * round;
-            summary_all(&mut sessions, history, table, places, sources, first, place)?;
+            summary_all(&mut sessions, index, first, place)?;
         }
-        let last = table.len();
-        summary_all(&mut sessions, history, table, places, sources, first, last)?;
+        summary_all(&mut sessions, index, first, index.table.len())?;
         Ok(SessionSummaries { sessions })
     }
 

@@ -1,12 +1,16 @@
 ghost use Rattle.cops_types.specs.declared.limits.TheConstants.{MAX_CLIENT_OPS, MAX_OPS};
 ghost use Rattle.std.specs.Prelude.{◌≡◌, ◌<◌, ◌≤◌, ◌+◌, ℕ, List, IfOk, IfSome, IfNone, IsOk, OnOk, IsTrue, Some, length, map, slice_index, []};
 ghost use Rattle.cops_types.specs.declared.op.OpName.{OpName};
+ghost use Rattle.cops_audit.specs.Analyses.{IsAnalysis};
+ghost use Rattle.cops_audit.specs.Floors.{HasNoNewer, IsNewestFor};
 ghost use Rattle.cops_audit.specs.Summaries.{above, StandsAt, summary_at};
-ghost use Rattle.cops_audit.specs.declared.summaries.Summary.{Summary};
-ghost use Rattle.cops_audit.specs.Sweeps.{ArePlaces, AreRising, Covers, Grows, HasRoom, InRange, IsAbout, IsFresh, IsNewestIn, IsSweeping, NoneFrom, Learns, Raises, TakesPut, work_left};
+ghost use Rattle.cops_audit.specs.Sweeps.{ArePlaces, Covers, Grows, HasRoom, InRange, IsAbout, IsFresh, IsSweeping};
+ghost use Rattle.cops_audit.specs.Sweeps.{Learns, next_after, Raises, TakesPut, with_next, work_left};
+ghost use Rattle.cops_audit.specs.Windows.{IsSuspect};
 
+use crate::analysis::Analysis;
 use crate::epochs::Epochs;
-use crate::summaries::{OpPlace, Summaries, Summary};
+use crate::summaries::{OpPlace, Summary};
 use crate::window::Suspect;
 use cops_types::{OpName, VersionedPut};
 use std::alloc::{AllocError, Global};
@@ -112,30 +116,26 @@ impl Sweep {
         }
     }
 
-    /// Visits an operation of a range whose later operations are visited. Returns whether its mark is above the floor,
-    /// so that the operation before it must be visited too; true where it has no summary.
+    /// Visits the operation next after those that are left to visit in its session. Returns whether its mark is above the
+    /// floor, so that those must be visited too; true where it has no summary.
     #[inline(always)]
     fn look_at(
         &mut self,
-        table: &[VersionedPut],
-        summaries: &Summaries,
-        firsts: &[u32],
+        analysis: &Analysis,
         floor: u32,
-        from: u32,
-        name: OpName,
+        left: OpRange,
         summarized: Option<Summary>,
     ) -> Result<bool, AllocError>
-        requires summarized { summarized ≡ summary_at summaries.now name }
-        requires rising { AreRising table.now summaries.now }
-        requires firsts { ArePlaces table.now firsts.now }
-        requires low { from ≤ name.index }
-        requires sweeping { IsSweeping table.now summaries.now firsts.now floor self.old (InRange (record { client = name.client; from = from; to = name.index + 1 })) }
-        ensures on { IfOk result (λ on. IsTrue on → IsSweeping table.now summaries.now firsts.now floor self.new (InRange (record { client = name.client; from = from; to = name.index }))) }
-        ensures done { IfOk result (λ on. ¬ IsTrue on → IsSweeping table.now summaries.now firsts.now floor self.new (λ _. ⊥)) }
-        ensures grows { OnOk result (Grows table.now summaries.now self.old self.new) }
+        requires analysis { IsAnalysis analysis.now }
+        requires low { left.from ≤ left.to }
+        requires summarized { summarized ≡ summary_at analysis.now.summaries.now (next_after left) }
+        requires sweeping { IsSweeping analysis.now.table.now analysis.now.summaries.now analysis.now.firsts.now floor self.old (InRange (with_next left)) }
+        ensures on { IfOk result (λ on. IsTrue on → IsSweeping analysis.now.table.now analysis.now.summaries.now analysis.now.firsts.now floor self.new (InRange left)) }
+        ensures done { IfOk result (λ on. ¬ IsTrue on → IsSweeping analysis.now.table.now analysis.now.summaries.now analysis.now.firsts.now floor self.new (λ _. ⊥)) }
+        ensures grows { OnOk result (Grows analysis.now.table.now analysis.now.summaries.now self.old self.new) }
         ensures work { OnOk result (work_left self.new ≤ work_left self.old) }
-        ensures room { (space : ℕ) → HasRoom space (map length summaries.now) self.old
-            → IsOk result × HasRoom space (map length summaries.now) self.new }
+        ensures room { (space : ℕ) → HasRoom space (map length analysis.now.summaries.now) self.old
+            → IsOk result × HasRoom space (map length analysis.now.summaries.now) self.new }
     {
         let Some(summary) = summarized else {
             return Ok(true);
@@ -143,38 +143,29 @@ impl Sweep {
         if summary.mark <= floor {
             return Ok(false);
         }
-        self.learn(table, firsts, summary.seen)?;
+        self.learn(analysis.table, analysis.firsts, summary.seen)?;
         Ok(true)
     }
 
     /// Visits the operations of a range, from the last one down, while their marks are above the floor.
-    fn look(
-        &mut self,
-        table: &[VersionedPut],
-        summaries: &Summaries,
-        firsts: &[u32],
-        floor: u32,
-        range: OpRange,
-    ) -> Result<(), AllocError>
-        requires rising { AreRising table.now summaries.now }
-        requires firsts { ArePlaces table.now firsts.now }
-        requires sweeping { IsSweeping table.now summaries.now firsts.now floor self.old (InRange range) }
-        ensures sweeping { OnOk result (IsSweeping table.now summaries.now firsts.now floor self.new (λ _. ⊥)) }
-        ensures grows { OnOk result (Grows table.now summaries.now self.old self.new) }
+    fn look(&mut self, analysis: &Analysis, floor: u32, range: OpRange) -> Result<(), AllocError>
+        requires analysis { IsAnalysis analysis.now }
+        requires sweeping { IsSweeping analysis.now.table.now analysis.now.summaries.now analysis.now.firsts.now floor self.old (InRange range) }
+        ensures sweeping { OnOk result (IsSweeping analysis.now.table.now analysis.now.summaries.now analysis.now.firsts.now floor self.new (λ _. ⊥)) }
+        ensures grows { OnOk result (Grows analysis.now.table.now analysis.now.summaries.now self.old self.new) }
         ensures work { OnOk result (work_left self.new ≤ work_left self.old) }
-        ensures room { (space : ℕ) → HasRoom space (map length summaries.now) self.old
-            → IsOk result × HasRoom space (map length summaries.now) self.new }
+        ensures room { (space : ℕ) → HasRoom space (map length analysis.now.summaries.now) self.old
+            → IsOk result × HasRoom space (map length analysis.now.summaries.now) self.new }
     {
-        let session = summaries.session(range.client);
+        let session = analysis.summaries.session(range.client);
         for index in (range.from..range.to).rev() {
             let summarized = session.get(index as usize).copied();
-            let name = OpName {
+            let left = OpRange {
                 client: range.client,
-                index,
+                from: range.from,
+                to: index,
             };
-            let on = self.look_at(
-                table, summaries, firsts, floor, range.from, name, summarized,
-            )?;
+            let on = self.look_at(analysis, floor, left, summarized)?;
             if !on {
                 return Ok(());
             }
@@ -183,24 +174,17 @@ impl Sweep {
     }
 
     /// Visits all operations that are still to be visited.
-    fn drain(
-        &mut self,
-        table: &[VersionedPut],
-        summaries: &Summaries,
-        firsts: &[u32],
-        floor: u32,
-    ) -> Result<(), AllocError>
-        requires rising { AreRising table.now summaries.now }
-        requires firsts { ArePlaces table.now firsts.now }
-        requires sweeping { IsSweeping table.now summaries.now firsts.now floor self.old (λ _. ⊥) }
-        ensures sweeping { OnOk result (IsSweeping table.now summaries.now firsts.now floor self.new (λ _. ⊥)) }
-        ensures grows { OnOk result (Grows table.now summaries.now self.old self.new) }
+    fn drain(&mut self, analysis: &Analysis, floor: u32) -> Result<(), AllocError>
+        requires analysis { IsAnalysis analysis.now }
+        requires sweeping { IsSweeping analysis.now.table.now analysis.now.summaries.now analysis.now.firsts.now floor self.old (λ _. ⊥) }
+        ensures sweeping { OnOk result (IsSweeping analysis.now.table.now analysis.now.summaries.now analysis.now.firsts.now floor self.new (λ _. ⊥)) }
+        ensures grows { OnOk result (Grows analysis.now.table.now analysis.now.summaries.now self.old self.new) }
         ensures empty { OnOk result (self.new.pending.items ≡ []) }
-        ensures room { (space : ℕ) → HasRoom space (map length summaries.now) self.old
-            → IsOk result × HasRoom space (map length summaries.now) self.new }
+        ensures room { (space : ℕ) → HasRoom space (map length analysis.now.summaries.now) self.old
+            → IsOk result × HasRoom space (map length analysis.now.summaries.now) self.new }
     {
         while let Some(range) = self.pending.pop() {
-            self.look(table, summaries, firsts, floor, range)?;
+            self.look(analysis, floor, range)?;
         }
         Ok(())
     }
@@ -208,30 +192,26 @@ impl Sweep {
     /// The place of the newest put on a suspect's key in its past, if there is one at `suspect.from` or later.
     pub fn newest_in_past(
         &mut self,
-        table: &[VersionedPut],
-        summaries: &Summaries,
-        firsts: &[u32],
+        analysis: &Analysis,
         floor: u32,
         suspect: Suspect,
     ) -> Result<Option<u32>, AllocError>
-        requires rising { AreRising table.now summaries.now }
-        requires firsts { ArePlaces table.now firsts.now }
-        requires sweeping { IsSweeping table.now summaries.now firsts.now floor self.old (λ _. ⊥) }
+        requires analysis { IsAnalysis analysis.now }
+        requires suspect { IsSuspect analysis.now.history.now.sessions analysis.now.table.now suspect }
+        requires sweeping { IsSweeping analysis.now.table.now analysis.now.summaries.now analysis.now.firsts.now floor self.old (λ _. ⊥) }
         requires empty { self.old.pending.items ≡ [] }
-        requires about { IsAbout table.now summaries.now self.old suspect.op }
-        requires summarized { (summary : Summary) × (summary_at summaries.now suspect.op ≡ Some summary) }
+        requires about { IsAbout analysis.now.table.now analysis.now.summaries.now self.old suspect.op }
         requires low { floor ≤ suspect.from }
-        requires source { (place mark : ℕ) → summary_at summaries.now suspect.op ≡ Some (record { seen = OpPlace.Got place; mark = mark }) → place < suspect.from }
-        ensures sweeping { OnOk result (IsSweeping table.now summaries.now firsts.now floor self.new (λ _. ⊥)) }
+        ensures sweeping { OnOk result (IsSweeping analysis.now.table.now analysis.now.summaries.now analysis.now.firsts.now floor self.new (λ _. ⊥)) }
         ensures empty { OnOk result (self.new.pending.items ≡ []) }
-        ensures about { OnOk result (IsAbout table.now summaries.now self.new suspect.op) }
-        ensures found { IfOk result (λ found. IfSome found (λ place. (suspect.from ≤ place) × IsNewestIn table.now summaries.now firsts.now suspect.op suspect.first place)) }
-        ensures none { IfOk result (λ found. IfNone found (NoneFrom table.now summaries.now firsts.now suspect.op suspect.first suspect.from)) }
-        ensures room { (space : ℕ) → HasRoom space (map length summaries.now) self.old
-            → IsOk result × HasRoom space (map length summaries.now) self.new }
+        ensures about { OnOk result (IsAbout analysis.now.table.now analysis.now.summaries.now self.new suspect.op) }
+        ensures found { IfOk result (λ found. IfSome found (IsNewestFor analysis.now suspect)) }
+        ensures none { IfOk result (λ found. IfNone found (HasNoNewer analysis.now suspect)) }
+        ensures room { (space : ℕ) → HasRoom space (map length analysis.now.summaries.now) self.old
+            → IsOk result × HasRoom space (map length analysis.now.summaries.now) self.new }
     {
         self.raise(suspect.op.client, suspect.op.index)?;
-        self.drain(table, summaries, firsts, floor)?;
+        self.drain(analysis, floor)?;
         let newest = self.newest.get(suspect.first as usize);
         if newest > suspect.from {
             Ok(Some(newest - 1))

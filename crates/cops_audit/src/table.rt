@@ -28,7 +28,8 @@ pub fn set_puts(puts: &mut Vec<VersionedPut>, history: &History) -> Result<(), A
 
 /// The puts with their versions, in order of versions.
 pub fn puts_by_version(alloc: Global, history: &History) -> Result<Vec<VersionedPut>, AllocError>
-    ensures { IfOk result (λ v. IsPutTable history.now.sessions v.items) }
+    ensures puts { IfOk result (λ v. IsPutTable history.now.sessions v.items) }
+    ensures limits { IfOk result (λ _. IsWithinLimits history.now.sessions) }
 {
     let mut puts = Vec::with_capacity(alloc, history.puts())?;
     set_puts(&mut puts, history)?;

@@ -1,5 +1,6 @@
-use crate::links::Links;
-use crate::parallel::summaries_and_links;
+use crate::analysis::{Analysis, PutIndex};
+use crate::key_index::KeyIndex;
+use crate::parallel::summaries_and_keys;
 use crate::put_places::put_places;
 use crate::puts::Puts;
 use crate::stale::stale_among;
@@ -12,19 +13,18 @@ use std::marker::Model;
 use std::thread::Threads;
 
 /// The tables in which stale gets are looked up, of a history in which no two puts have the same version: its puts, the
-/// causal summaries of its operations, and, for many lookups, the links between its puts.
+/// causal summaries of its operations, and the puts by their keys.
 #[derive(Drop)]
 pub struct Tables<'a> {
     history: &'a History,
     names: Vec<OpName>,
     table: Vec<VersionedPut>,
     summaries: SessionSummaries,
-    links: Option<Links>,
+    keys: KeyIndex,
 }
 
 impl<'a> Model for Tables<'a> {
-    ghost use Rattle.std.specs.Prelude.{IfSome};
-    ghost use Rattle.cops_audit.specs.Links.{AreLinks};
+    ghost use Rattle.cops_audit.specs.KeyIndexes.{IsKeyIndex};
     ghost use Rattle.cops_audit.specs.Summarized.{AreTables, Summarized};
 
     ghost Value = { Summarized };
@@ -32,7 +32,7 @@ impl<'a> Model for Tables<'a> {
     ghost view = { λ t. record { sessions = t.history.now.sessions; names = t.names.items; summaries = t.summaries } };
 
     ghost invariant = { λ t. AreTables t.table.items (record { sessions = t.history.now.sessions; names = t.names.items; summaries = t.summaries })
-        × IfSome t.links (AreLinks t.history.now t.table.items) };
+        × IsKeyIndex t.history.now t.table.items t.keys };
 }
 
 impl<'a> Tables<'a> {
@@ -43,39 +43,32 @@ impl<'a> Tables<'a> {
     ghost use Rattle.cops_audit.specs.Tables.{Rises};
     ghost use Rattle.cops_audit.specs.Verdicts.{IsVerdict};
 
-    /// The puts and the summaries, for a single lookup among all operations. The only error is `AllocError`, where
-    /// memory runs out.
+    /// The tables of puts. The only error is `AllocError`, where memory runs out.
     pub fn new(alloc: Global, puts: Puts<'a>) -> Result<Self, AllocError>
         requires { Rises puts.table }
         ensures sessions { IfOk result (λ tables. tables.sessions ≡ puts.entry.sessions) }
         ensures names { IfOk result (λ tables. tables.names ≡ puts.entry.names) }
     {
-        let Puts {
-            history,
-            names,
-            table,
-            sources,
-        } = puts;
-        let places = put_places(alloc, history, table.as_slice())?;
-        let summaries = SessionSummaries::new(
-            alloc,
-            history,
-            table.as_slice(),
-            places.as_slice(),
-            sources.places.as_slice(),
-        )?;
+        let places = put_places(alloc, puts.history, puts.table.as_slice())?;
+        let index = PutIndex {
+            history: puts.history,
+            table: puts.table.as_slice(),
+            places: places.as_slice(),
+            sources: puts.sources.places.as_slice(),
+        };
+        let summaries = SessionSummaries::new(alloc, &index)?;
+        let keys = KeyIndex::new(alloc, index.history, index.table, index.places)?;
         Ok(Tables {
-            history,
-            names,
-            table,
+            history: puts.history,
+            names: puts.names,
+            table: puts.table,
             summaries,
-            links: None,
+            keys,
         })
     }
 
-    /// The puts, the summaries and the links, built by at most `threads` threads, for one lookup in each part of the
-    /// operations. The only error is `AllocError`, where memory runs out.
-    pub fn linked<R: Threads + Sync>(
+    /// Like `new`, but with at most `threads` threads. The only error is `AllocError`, where memory runs out.
+    pub fn parallel<R: Threads + Sync>(
         rt: &R,
         alloc: Global,
         puts: Puts<'a>,
@@ -85,26 +78,20 @@ impl<'a> Tables<'a> {
         ensures sessions { IfOk result (λ tables. tables.sessions ≡ puts.entry.sessions) }
         ensures names { IfOk result (λ tables. tables.names ≡ puts.entry.names) }
     {
-        let Puts {
-            history,
-            names,
-            table,
-            sources,
-        } = puts;
-        let (summaries, links) = summaries_and_links(
-            rt,
-            alloc,
-            history,
-            table.as_slice(),
-            sources.places.as_slice(),
-            threads,
-        )?;
+        let places = put_places(alloc, puts.history, puts.table.as_slice())?;
+        let index = PutIndex {
+            history: puts.history,
+            table: puts.table.as_slice(),
+            places: places.as_slice(),
+            sources: puts.sources.places.as_slice(),
+        };
+        let (summaries, keys) = summaries_and_keys(rt, alloc, &index, threads)?;
         Ok(Tables {
-            history,
-            names,
-            table,
+            history: puts.history,
+            names: puts.names,
+            table: puts.table,
             summaries,
-            links: Some(links),
+            keys,
         })
     }
 
@@ -124,15 +111,16 @@ impl<'a> Tables<'a> {
         requires above { AllAbove self.now.sessions }
         ensures { IfOk result (λ v. ListsAmong (λ f. f.op) (λ f. IsStale self.now.sessions f.op f.newer) (slice_range self.now.names start (start + len)) v.items) }
     {
-        let names = &self.names[start..start + len];
-        let table = self.table.as_slice();
         let summaries = self.summaries.look();
-        let Some(links) = &self.links else {
-            let places = put_places(alloc, self.history, table)?;
-            let links = Links::once(alloc, self.history, table, places.as_slice())?;
-            return stale_among(alloc, self.history, table, &summaries, &links, names);
+        let analysis = Analysis {
+            history: self.history,
+            table: self.table.as_slice(),
+            summaries: &summaries,
+            nexts: self.keys.nexts.as_slice(),
+            by_key: self.keys.by_key.as_slice(),
+            firsts: self.keys.firsts.as_slice(),
         };
-        stale_among(alloc, self.history, table, &summaries, links, names)
+        stale_among(alloc, &analysis, &self.names[start..start + len])
     }
 
     /// The verdict where the classes before the stale gets are empty: the stale gets among all names, or the puts in

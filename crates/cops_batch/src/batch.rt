@@ -166,7 +166,7 @@ fn judge_stale<R: Threads + Wait + Sync, G: Gate>(
     ensures held { IsErrOf result Held → (i : ℕ) × (i < length pieces.old) × MayHoldPiece (G.may_hold gate.now) i }
 {
     let count = puts.count();
-    let Ok(tables) = Tables::linked(rt, alloc, puts, workers) else {
+    let Ok(tables) = Tables::parallel(rt, alloc, puts, workers) else {
         last_round(rt, gate, pieces, count)?;
         return Err(BatchFault::Memory);
     };

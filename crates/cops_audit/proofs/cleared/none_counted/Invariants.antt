@@ -4,6 +4,6 @@ use Rattle.cops_audit.proofs.cleared.none_counted.Given as goal
 
 abbrev pub invariant-loop : goal.invariant-loop
 invariant-loop l = record {
-  has : slice_get l.firsts l.place ≡ Some l.suspect.first;
-  none : NoneUpTo l.table l.firsts l.counts l.suspect l.place;
+  has : slice_get l.analysis.firsts.now l.place ≡ Some l.suspect.first;
+  none : NoneUpTo l.analysis.table.now l.analysis.firsts.now l.counts l.suspect l.place;
 }

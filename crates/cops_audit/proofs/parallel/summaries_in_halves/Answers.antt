@@ -5,8 +5,8 @@ use Rattle.cops_audit.proofs.parallel.summaries_in_halves.Goals as goal
 
 pub returns : goal.returns
 returns g c =
-    let h = c.args.history.now.sessions in
-    let table = c.args.table.now in
+    let h = c.args.index.now.history.now.sessions in
+    let table = c.args.index.now.table.now in
     let clients = c.clients-clients.result in
     let mid = clients / 2 in
     let low : AreSummarized h table 0 mid c.in_ok-low.field-0 = subst (λ r. IfOk r (AreSummarized h table 0 mid)) c.in_ok-low.was c.join-low.ensures.first in

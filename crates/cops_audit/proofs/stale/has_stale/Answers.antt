@@ -2,26 +2,17 @@ use Rattle.std.proofs.Common.{ℕ, arith}
 use Rattle.cops_types.specs.declared.op.OpName.{OpName}
 use Rattle.cops_types.specs.Faults.{IsNewer}
 use Rattle.cops_audit.specs.declared.window.Suspect.{Suspect}
-use Rattle.cops_audit.proofs.Bridging.{are_places, are_rising, summarized_suspect, none_reported, stale_reported}
+use Rattle.cops_audit.proofs.Bridging.{none_reported, stale_reported}
 use Rattle.cops_audit.proofs.Collect.{each_next}
 use Rattle.cops_audit.proofs.Flooring.{none_at, some_at}
 use Rattle.cops_audit.proofs.stale.has_stale.Goals as goal
-
-pub judge_next-requires-clause-rising : goal.judge_next-requires-clause-rising
-judge_next-requires-clause-rising c = are_rising c.args.history.now.sessions c.args.table.now c.requires.table c.args.summaries.now c.requires.summaries c.requires.sources c.requires.above c.requires.limits
-
-pub judge_next-requires-clause-firsts : goal.judge_next-requires-clause-firsts
-judge_next-requires-clause-firsts c = are_places c.args.history.now.sessions c.args.table.now c.requires.table c.args.firsts.now c.requires.firsts
-
-pub judge_next-requires-clause-summarized : goal.judge_next-requires-clause-summarized
-judge_next-requires-clause-summarized c = λ d. summarized_suspect c.args.history.now.sessions c.args.table.now c.requires.table c.args.summaries.now c.requires.summaries c.requires.sources _ (c.requires.suspects c.loop-k.k d (omega arith))
 
 pub loop-k-init : goal.loop-k-init
 loop-k-init c = record {
   none = λ j d less. absurd (omega (arith, less));
   after = record {
     empty = c.requires.idle.empty;
-    clients = omega (arith, c.requires.idle.clients, c.requires.summaries.clients);
+    clients = omega (arith, c.requires.idle.clients, c.requires.analysis.summaries.clients);
     places = c.requires.idle.places;
     sweeping = λ j e. absurd (omega (arith, e));
     about = λ j d e. absurd (omega (arith, e));
@@ -31,12 +22,12 @@ loop-k-init c = record {
 
 pub loop-k-preserved : goal.loop-k-preserved
 loop-k-preserved c =
-    let h = c.args.history.now.sessions in
-    let table = c.args.table.now in
+    let h = c.args.analysis.now.history.now.sessions in
+    let table = c.args.analysis.now.table.now in
     let none : Suspect = record { op = record { client = 0; index = 0 }; first = 0; from = 0 } in
     record {
       none = each_next (λ (s : Suspect). (newer : OpName) (version : ℕ) → ¬ IsNewer h s.op newer version) c.args.suspects.now c.loop-k.k none (omega arith) c.loop-k.invariant.none
-          (none_reported h table c.requires.table c.args.firsts.now c.requires.firsts c.args.summaries.now c.requires.summaries c.requires.sources _ (c.requires.suspects c.loop-k.k none (omega arith))
+          (none_reported h table c.requires.analysis.table c.args.analysis.now.firsts.now c.requires.analysis.firsts c.args.analysis.now.summaries.now c.requires.analysis.summaries c.requires.analysis.sources _ (c.requires.suspects.each c.loop-k.k none (omega arith))
           (none_at _ c.in_ok-found.found c.in_default.is c.in_ok-found.ensures.none none));
       after = c.in_ok-found.ensures.after;
       room = λ space room. (c.in_ok-found.ensures.room space (c.loop-k.invariant.room space room)).1;
@@ -48,7 +39,7 @@ returns-in-Some-clause-stale c = λ _.
     let found = some_at _ c.in_ok-found.found c.in-Some._place c.in-Some.is c.in_ok-found.ensures.found none in (
       _,
       _,
-      stale_reported c.args.history.now.sessions c.args.table.now c.requires.table c.args.firsts.now c.requires.firsts c.args.summaries.now c.requires.summaries c.requires.sources _ (c.requires.suspects c.loop-k.k none (omega arith))
+      stale_reported c.args.analysis.now.history.now.sessions c.args.analysis.now.table.now c.requires.analysis.table c.args.analysis.now.firsts.now c.requires.analysis.firsts c.args.analysis.now.summaries.now c.requires.analysis.summaries c.requires.analysis.sources _ (c.requires.suspects.each c.loop-k.k none (omega arith))
           c.in-Some._place found.1 found.0,
     )
 

@@ -8,7 +8,7 @@ use Rattle.cops_audit.proofs.stale.has_stale.Given as goal
 
 abbrev pub invariant-loop-k : goal.invariant-loop-k
 invariant-loop-k l = record {
-  none : (j : ℕ) (d : Suspect) → j < l.k → (newer : OpName) (version : ℕ) → ¬ IsNewer l.history.sessions (get_or l.suspects j d).op newer version;
-  after : IsAfter l.table l.summaries l.firsts l.suspects l.floors l.k l.sweep;
-  room : (space : ℕ) → HasRoom space (map length l.summaries) l.fn.sweep → HasRoom space (map length l.summaries) l.sweep;
+  none : (j : ℕ) (d : Suspect) → j < l.k → (newer : OpName) (version : ℕ) → ¬ IsNewer l.analysis.history.now.sessions (get_or l.suspects j d).op newer version;
+  after : IsAfter l.analysis.table.now l.analysis.summaries.now l.analysis.firsts.now l.suspects l.floors l.k l.sweep;
+  room : (space : ℕ) → HasRoom space (map length l.analysis.summaries.now) l.fn.sweep → HasRoom space (map length l.analysis.summaries.now) l.sweep;
 }

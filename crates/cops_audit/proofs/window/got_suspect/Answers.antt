@@ -7,24 +7,24 @@ use Rattle.cops_audit.proofs.Linking.{next_at}
 use Rattle.cops_audit.proofs.Places.{inside_table}
 use Rattle.cops_audit.proofs.Suspecting.{got_clear, got_far, got_is, on_source}
 use Rattle.cops_audit.proofs.window.got_suspect.Goals as goal
-use Rattle.cops_audit.proofs.window.got_suspect.Goals.{then-from-mark-via-then-from-mark, then-from-mark-via-else-from-mark+then-from-table}
+use Rattle.cops_audit.proofs.window.got_suspect.Goals.{then-from-mark-via-then-from-mark, then-from-mark-via-else-from-mark+then-from-analysis}
 
 pub returns-then-from-mark-clause-none : goal.returns-then-from-mark-clause-none
 returns-then-from-mark-clause-none c =
-    let h = c.args.history.now.sessions in
-    let table = c.args.table.now in
+    let h = c.args.analysis.now.history.now.sessions in
+    let table = c.args.analysis.now.table.now in
     let op = c.args.op in
     let place = c.args.place in
     let inside = inside_table table place c.requires.got.0 c.requires.got.1 c.requires.got.2 in
-    let next = get_or c.args.nexts.now place 0 in
-    let links = next_at h table c.args.nexts.now c.requires.nexts place inside next refl in
-    let clear = λ (past : length table ≤ next). got_clear h table c.requires.table op place c.requires.got c.args.mark (links.1 past) in
+    let next = get_or c.args.analysis.now.nexts.now place 0 in
+    let links = next_at h table c.args.analysis.now.nexts.now c.requires.analysis.nexts place inside next refl in
+    let clear = λ (past : length table ≤ next). got_clear h table c.requires.analysis.table op place c.requires.got c.args.mark (links.1 past) in
     elim c.then-from-mark.branch [
       | then-from-mark-via-then-from-mark w ↦ elim (cases_lt next (length table)) [
-        | inl less ↦ got_far h table c.requires.table op place c.requires.got c.args.mark next (links.0 less) w.if-from-mark.true
+        | inl less ↦ got_far h table c.requires.analysis.table op place c.requires.got c.args.mark next (links.0 less) w.if-from-mark.true
         | inr past ↦ clear past
       ]
-      | then-from-mark-via-else-from-mark+then-from-table w ↦ clear (omega (arith, w.if-from-table.true))
+      | then-from-mark-via-else-from-mark+then-from-analysis w ↦ clear (omega (arith, w.if-from-analysis.true))
     ]
 
 pub first_on-requires : goal.first_on-requires
@@ -32,20 +32,20 @@ first_on-requires c = (_, c.requires.got.4.got)
 
 pub returns-in_default-clause-none : goal.returns-in_default-clause-none
 returns-in_default-clause-none c =
-    let h = c.args.history.now.sessions in
-    let table = c.args.table.now in
+    let h = c.args.analysis.now.history.now.sessions in
+    let table = c.args.analysis.now.table.now in
     let source = c.requires.got.4 in
-    let none : IsFirstFrom h table 0 source.key None = c.in_default.ensures table source.key c.requires.firsts (ap (option_map key_of) source.got) in
-    absurd (none c.args.place (omega arith) (on_source h table c.requires.table c.args.op c.args.place c.requires.got))
+    let none : IsFirstFrom h table 0 source.key None = c.in_default.ensures table source.key c.requires.analysis.by_key (ap (option_map key_of) source.got) in
+    absurd (none c.args.place (omega arith) (on_source h table c.requires.analysis.table c.args.op c.args.place c.requires.got))
 
 pub returns-clause-suspect : goal.returns-clause-suspect
 returns-clause-suspect c =
-    let h = c.args.history.now.sessions in
-    let table = c.args.table.now in
+    let h = c.args.analysis.now.history.now.sessions in
+    let table = c.args.analysis.now.table.now in
     let source = c.requires.got.4 in
     let inside = inside_table table c.args.place c.requires.got.0 c.requires.got.1 c.requires.got.2 in (
       refl,
-      got_is h table c.requires.table c.args.op c.args.place c.requires.got c.in-Some.first (get_or c.args.nexts.now c.args.place 0)
-          ((next_at h table c.args.nexts.now c.requires.nexts c.args.place inside (get_or c.args.nexts.now c.args.place 0) refl).0 (omega (arith, c.if-from-table.false)))
-          (c.in-Some.ensures table source.key c.requires.firsts (ap (option_map key_of) source.got)),
+      got_is h table c.requires.analysis.table c.args.op c.args.place c.requires.got c.in-Some.first (get_or c.args.analysis.now.nexts.now c.args.place 0)
+          ((next_at h table c.args.analysis.now.nexts.now c.requires.analysis.nexts c.args.place inside (get_or c.args.analysis.now.nexts.now c.args.place 0) refl).0 (omega (arith, c.if-from-analysis.false)))
+          (c.in-Some.ensures table source.key c.requires.analysis.by_key (ap (option_map key_of) source.got)),
     )

@@ -7,24 +7,24 @@ use Rattle.cops_audit.proofs.window.push_session_suspects.Goals.{in-Some+in_ok-p
 
 pub loop-index-preserved : goal.loop-index-preserved
 loop-index-preserved c =
-    let h = c.args.history.now.sessions in
+    let h = c.args.analysis.now.history.now.sessions in
     let i = c.loop-index.index in
     let inside : i < length (slice_index_or h c.args.client []) = omega (arith, c.session_len-index-end.ensures.count) in
     elim c.match-find_suspect.branch [
       | in-Some+in_ok-push w ↦ rw (w.suspects-is, w.in_ok-push.ensures.items)
           record {
-            suspects = push_before h c.args.table.now c.args.client i inside c.loop-index.suspects.items c.loop-index.invariant.suspects _ refl refl _ w.in-Some.ensures.suspect.0 w.in-Some.ensures.suspect.1;
+            suspects = push_before h c.args.analysis.now.table.now c.args.client i inside c.loop-index.suspects.items c.loop-index.invariant.suspects _ refl refl _ w.in-Some.ensures.suspect.0 w.in-Some.ensures.suspect.1;
             capacity = omega (arith, w.in_ok-push.ensures.capacity, c.loop-index.invariant.capacity);
           }
       | in_default w ↦ rw w.suspects-is
           record {
-            suspects = skip_before h c.args.table.now c.args.client i inside c.loop-index.suspects.items c.loop-index.invariant.suspects _ refl refl w.in_default.ensures.none;
+            suspects = skip_before h c.args.analysis.now.table.now c.args.client i inside c.loop-index.suspects.items c.loop-index.invariant.suspects _ refl refl w.in_default.ensures.none;
             capacity = omega (arith, c.loop-index.invariant.capacity);
           }
     ]
 
 pub returns-clause-suspects : goal.returns-clause-suspects
-returns-clause-suspects c = session_gathered c.args.history.now.sessions c.args.table.now c.args.client c.loop-index.index _ c.requires.client (omega (arith, c.session_len-index-end.ensures.count)) c.loop-index.invariant.suspects
+returns-clause-suspects c = session_gathered c.args.analysis.now.history.now.sessions c.args.analysis.now.table.now c.args.client c.loop-index.index _ c.requires.client (omega (arith, c.session_len-index-end.ensures.count)) c.loop-index.invariant.suspects
 
 pub returns-clause-capacity : goal.returns-clause-capacity
 returns-clause-capacity c = c.loop-index.invariant.capacity
@@ -45,5 +45,5 @@ returns-in_err-push-clause-succeeds c = λ room.
       c.loop-index-test.true,
       c.session_len-index-end.ensures.count,
       c.loop-index.suspects.ok.0,
-      sum_by_more_le (length {A = Operation}) c.args.history.now.sessions c.args.client [] c.requires.client,
+      sum_by_more_le (length {A = Operation}) c.args.analysis.now.history.now.sessions c.args.client [] c.requires.client,
     ))

@@ -5,6 +5,6 @@ use Rattle.cops_audit.proofs.window.push_session_suspects.Given as goal
 
 abbrev pub invariant-loop-index : goal.invariant-loop-index
 invariant-loop-index l = record {
-  suspects : AreSuspectsBefore l.history.sessions l.table l.client l.index l.suspects.items;
+  suspects : AreSuspectsBefore l.analysis.history.now.sessions l.analysis.table.now l.client l.index l.suspects.items;
   capacity : vec_capacity l.fn.suspects ≤ vec_capacity l.suspects;
 }

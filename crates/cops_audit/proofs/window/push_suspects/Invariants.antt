@@ -5,7 +5,7 @@ use Rattle.cops_audit.proofs.window.push_suspects.Given as goal
 
 abbrev pub invariant-loop-name : goal.invariant-loop-name
 invariant-loop-name l = record {
-  suspects : AreSuspects l.history.sessions l.table (take l.name-index l.names) l.suspects.items;
+  suspects : AreSuspects l.analysis.history.now.sessions l.analysis.table.now (take l.name-index l.names) l.suspects.items;
   count : length l.suspects.items ≤ l.name-index;
   capacity : vec_capacity l.fn.suspects ≤ vec_capacity l.suspects;
 }

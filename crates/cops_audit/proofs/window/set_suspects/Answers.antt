@@ -5,9 +5,9 @@ use Rattle.cops_audit.proofs.window.set_suspects.Goals as goal
 
 pub loop-client-init : goal.loop-client-init
 loop-client-init c = record {
-  suspects = subst (AreSuspectsBefore c.args.history.now.sessions c.args.table.now 0 0) (sym c.clear.ensures.items) (none_gathered c.args.history.now.sessions c.args.table.now);
+  suspects = subst (AreSuspectsBefore c.args.analysis.now.history.now.sessions c.args.analysis.now.table.now 0 0) (sym c.clear.ensures.items) (none_gathered c.args.analysis.now.history.now.sessions c.args.analysis.now.table.now);
   capacity = omega (arith, c.clear.ensures.capacity);
 }
 
 pub returns-clause-suspects : goal.returns-clause-suspects
-returns-clause-suspects c = sessions_gathered c.args.history.now.sessions c.args.table.now c.loop-client.client _ (omega arith) c.loop-client.invariant.suspects
+returns-clause-suspects c = sessions_gathered c.args.analysis.now.history.now.sessions c.args.analysis.now.table.now c.loop-client.client _ (omega arith) c.loop-client.invariant.suspects

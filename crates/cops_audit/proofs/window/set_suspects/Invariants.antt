@@ -5,6 +5,6 @@ use Rattle.cops_audit.proofs.window.set_suspects.Given as goal
 
 abbrev pub invariant-loop-client : goal.invariant-loop-client
 invariant-loop-client l = record {
-  suspects : AreSuspectsBefore l.history.sessions l.table l.client 0 l.suspects.items;
+  suspects : AreSuspectsBefore l.analysis.history.now.sessions l.analysis.table.now l.client 0 l.suspects.items;
   capacity : vec_capacity l.fn.suspects ≤ vec_capacity l.suspects;
 }

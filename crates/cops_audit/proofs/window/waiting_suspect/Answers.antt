@@ -8,18 +8,18 @@ pub first_on-requires : goal.first_on-requires
 first_on-requires c = (_, c.requires.seen.0.got)
 
 pub returns-then-place-mark-clause-none : goal.returns-then-place-mark-clause-none
-returns-then-place-mark-clause-none c = waiting_far c.args.history.now.sessions c.args.table.now c.requires.table c.args.op c.args.place c.requires.seen c.requires.waiting c.args.mark c.if-place-mark.true
+returns-then-place-mark-clause-none c = waiting_far c.args.analysis.now.history.now.sessions c.args.analysis.now.table.now c.requires.analysis.table c.args.op c.args.place c.requires.seen c.requires.waiting c.args.mark c.if-place-mark.true
 
 pub returns-in_default-clause-none : goal.returns-in_default-clause-none
 returns-in_default-clause-none c =
     let own = c.requires.seen.0 in
-    waiting_clear c.args.history.now.sessions c.args.table.now c.requires.table c.args.op c.args.place c.requires.seen c.requires.waiting c.args.mark
-    (c.in_default.ensures c.args.table.now own.key c.requires.firsts (ap (option_map key_of) own.got))
+    waiting_clear c.args.analysis.now.history.now.sessions c.args.analysis.now.table.now c.requires.analysis.table c.args.op c.args.place c.requires.seen c.requires.waiting c.args.mark
+    (c.in_default.ensures c.args.analysis.now.table.now own.key c.requires.analysis.by_key (ap (option_map key_of) own.got))
 
 pub returns-clause-suspect : goal.returns-clause-suspect
 returns-clause-suspect c =
     let own = c.requires.seen.0 in (
       refl,
-      waiting_is c.args.history.now.sessions c.args.table.now c.requires.table c.args.op c.args.place c.requires.seen c.requires.waiting c.in-Some.first
-          (c.in-Some.ensures c.args.table.now own.key c.requires.firsts (ap (option_map key_of) own.got)),
+      waiting_is c.args.analysis.now.history.now.sessions c.args.analysis.now.table.now c.requires.analysis.table c.args.op c.args.place c.requires.seen c.requires.waiting c.in-Some.first
+          (c.in-Some.ensures c.args.analysis.now.table.now own.key c.requires.analysis.by_key (ap (option_map key_of) own.got)),
     )

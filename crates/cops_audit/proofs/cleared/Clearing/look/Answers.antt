@@ -4,13 +4,14 @@ use Rattle.std.proofs.lemmas.List.{get_or-map}
 use Rattle.cops_types.specs.declared.op.OpName.{OpName}
 use Rattle.cops_audit.specs.Clocks.{Knows}
 use Rattle.cops_audit.specs.Summaries.{summary_at}
+use Rattle.cops_audit.proofs.Bridging.{analysis_rising}
 use Rattle.cops_audit.proofs.Chaining.{clear_one, none_from}
 use Rattle.cops_audit.proofs.cleared.Clearing.look.Goals as goal
 
 pub returns-then-none_counted-clause-clearing : goal.returns-then-none_counted-clause-clearing
 returns-then-none_counted-clause-clearing c =
-    let table = c.args.table.now in
-    let summaries = c.args.summaries.now in
+    let table = c.args.analysis.now.table.now in
+    let summaries = c.args.analysis.now.summaries.now in
     let was = c.requires.clearing in
     let name = c.args.name in
     let suspect = c.in-Some-get.suspect.now in
@@ -25,7 +26,7 @@ returns-then-none_counted-clause-clearing c =
     record {
       clocks = was.clocks;
       count = length-set c.args.self.now.cleared.items place true ∙ was.count;
-      cleared = clear_one table summaries c.args.firsts.now c.args.suspects.now c.args.self.now.cleared.items place suspect was.cleared (λ d. c.in-Some-get.ensures.lookup.3.1 d)
-          (none_from table summaries c.requires.rising c.args.firsts.now c.as_slice-known.result.now suspect c.args.summary (ap (summary_at summaries) same ∙ c.requires.summarized)
+      cleared = clear_one table summaries c.args.analysis.now.firsts.now c.args.suspects.now c.args.self.now.cleared.items place suspect was.cleared (λ d. c.in-Some-get.ensures.lookup.3.1 d)
+          (none_from table summaries (analysis_rising c.args.analysis.now c.requires.analysis) c.args.analysis.now.firsts.now c.as_slice-known.result.now suspect c.args.summary (ap (summary_at summaries) same ∙ c.requires.summarized)
           (subst (λ (n : OpName). Knows table summaries c.as_slice-known.result.now n.client (n.index + 1)) (sym same) knows) (c.none_counted.ensures c.if-none_counted.true));
     }

@@ -3,6 +3,6 @@ use Rattle.cops_audit.proofs.cleared.Clearing.pass_all.Given as goal
 
 abbrev pub invariant-loop-place : goal.invariant-loop-place
 invariant-loop-place l = record {
-  clearing : IsClearing l.table l.summaries l.firsts l.suspects l.self;
-  passed : ArePassed l.table l.self.clocks.passed.items l.place;
+  clearing : IsClearing l.analysis.table.now l.analysis.summaries.now l.analysis.firsts.now l.suspects l.self;
+  passed : ArePassed l.analysis.table.now l.self.clocks.passed.items l.place;
 }

@@ -4,7 +4,7 @@ use Rattle.cops_audit.proofs.cleared.Clearing.pass_to.Given as goal
 
 abbrev pub invariant-loop-index : goal.invariant-loop-index
 invariant-loop-index l = record {
-  clearing : IsClearing l.table l.summaries l.firsts l.suspects l.self;
+  clearing : IsClearing l.analysis.table.now l.analysis.summaries.now l.analysis.firsts.now l.suspects l.self;
   passed : slice_index l.self.clocks.passed.items l.client ≡ l.index;
   kept : (k : ℕ) → slice_index l.fn.self.clocks.passed.items k ≤ slice_index l.self.clocks.passed.items k;
 }

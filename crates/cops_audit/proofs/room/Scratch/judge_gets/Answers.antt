@@ -24,7 +24,7 @@ pub returns : goal.returns
 returns c =
     let h = c.args.history.now.sessions in
     let stale = c.in_ok-stale.stale in
-    let table = c.as_slice.ensures.value ∙ ap (λ (v : Vec VersionedPut Global). v.items) c.in_ok-stale.ensures.table in
+    let table = c.as_slice-4.ensures.value ∙ ap (λ (v : Vec VersionedPut Global). v.items) c.in_ok-stale.ensures.table in
     record {
       doubled = none_doubled h c.args.self.now.table.items c.requires.table;
       sources = subst (λ (o : Option Verdict). IfNone o (AllHaveSources h)) c.in_default.is c.in_ok-found.ensures.sources;

@@ -8,7 +8,7 @@ loop-round-init c =
     let count : c.args.first + length c.in_ok-sessions.sessions.items ≡ c.args.end = omega (arith, c.in_ok-sessions.ensures.0, c.min-end.ensures, c.clients.ensures.count, c.requires.first, c.requires.end) in
     record {
       count = count;
-      prefixes = prefixes_of_none (λ (s : Vec Summary Global). s.items) c.args.history.now.sessions c.args.table.now c.args.first c.in_ok-sessions.sessions.items (omega (arith, count, c.requires.end)) c.in_ok-sessions.ensures.1;
+      prefixes = prefixes_of_none (λ (s : Vec Summary Global). s.items) c.args.index.now.history.now.sessions c.args.index.now.table.now c.args.first c.in_ok-sessions.sessions.items (omega (arith, count, c.requires.end)) c.in_ok-sessions.ensures.1;
     }
 
 pub returns-clause-some : goal.returns-clause-some
@@ -16,7 +16,7 @@ returns-clause-some c =
     let f = λ (s : Vec Summary Global). s.items in
     let xs = c.summary_all-2.new.sessions.items in
     let ensures = c.in_ok-summary_all-2.ensures in
-    summarized_whole c.args.history.now.sessions c.args.table.now c.args.first c.args.end f xs (omega (arith, ensures.count, c.loop-round.invariant.count)) ensures.prefixes (ensures.whole (omega arith))
+    summarized_whole c.args.index.now.history.now.sessions c.args.index.now.table.now c.args.first c.args.end f xs (omega (arith, ensures.count, c.loop-round.invariant.count)) ensures.prefixes (ensures.whole (omega arith))
 
 pub returns-clause-all : goal.returns-clause-all
-returns-clause-all c = λ from to. summarized_all c.args.history.now.sessions c.args.table.now c.args.first c.args.end _ from to (returns-clause-some c)
+returns-clause-all c = λ from to. summarized_all c.args.index.now.history.now.sessions c.args.index.now.table.now c.args.first c.args.end _ from to (returns-clause-some c)

@@ -5,5 +5,5 @@ use Rattle.cops_audit.proofs.summaries.SessionSummaries.on_clients.Given as goal
 abbrev pub invariant-loop-round : goal.invariant-loop-round
 invariant-loop-round l = record {
   count : l.first + length l.sessions.items ≡ l.fn.end;
-  prefixes : ArePrefixesSummarized l.history.sessions l.table l.first (map (λ s. s.items) l.sessions.items);
+  prefixes : ArePrefixesSummarized l.index.history.now.sessions l.index.table.now l.first (map (λ s. s.items) l.sessions.items);
 }

@@ -4,9 +4,9 @@ use Rattle.cops_audit.proofs.sweep.Sweep.drain.Given as goal
 
 abbrev pub invariant-loop-range : goal.invariant-loop-range
 invariant-loop-range l = record {
-  sweeping : IsSweeping l.table l.summaries l.firsts l.floor l.self (λ _. ⊥);
-  grows : Grows l.table l.summaries l.fn.self l.self;
-  room : (space : ℕ) → HasRoom space (map length l.summaries) l.fn.self → HasRoom space (map length l.summaries) l.self;
+  sweeping : IsSweeping l.analysis.table.now l.analysis.summaries.now l.analysis.firsts.now l.floor l.self (λ _. ⊥);
+  grows : Grows l.analysis.table.now l.analysis.summaries.now l.fn.self l.self;
+  room : (space : ℕ) → HasRoom space (map length l.analysis.summaries.now) l.fn.self → HasRoom space (map length l.analysis.summaries.now) l.self;
 }
 
 abbrev pub decreases-loop-range : goal.decreases-loop-range

@@ -1,18 +1,19 @@
 use Rattle.std.proofs.Common.{sym, subst}
-use Rattle.cops_audit.specs.Links.{AreLinks}
+use Rattle.cops_audit.specs.KeyIndexes.{IsKeyIndex}
 use Rattle.cops_audit.specs.Summaries.{IsSummarized}
 use Rattle.cops_audit.specs.Sorted.{Sorted}
 use Rattle.cops_audit.specs.Tables.{Rises}
-use Rattle.cops_audit.proofs.tables.Tables.linked.Goals as goal
+use Rattle.cops_audit.proofs.tables.Tables.parallel.Goals as goal
 
 pub invariant_of-result : goal.invariant_of-result
 invariant_of-result g c =
     let h = c.puts.inside.history.now.sessions in
-    let seen = c.as_slice.ensures.value in (
+    let seen = c.as_slice-2.ensures.value in (
       record {
         names = c.puts.invariant.0.names;
         puts = record { table = c.puts.invariant.0.table; rising = subst (λ (s : Sorted). Rises s.table) (sym c.puts.view_is) c.requires };
         summaries = subst (λ table. IsSummarized h table c.in_ok-summaries.summaries) seen c.in_ok-summaries.ensures.summaries;
+        limits = c.puts.invariant.0.limits;
       },
-      subst (λ table. AreLinks c.puts.inside.history.now table c.in_ok-summaries.links) seen c.in_ok-summaries.ensures.links,
+      subst (λ table. IsKeyIndex c.puts.inside.history.now table c.in_ok-summaries.keys) seen c.in_ok-summaries.ensures.keys,
     )
