@@ -4,7 +4,9 @@ use Rattle.std.proofs.Math.Nat.{eq-or-lt_of_le}
 use Rattle.std.proofs.lemmas.List.Quantifiers.{all_pairs_push}
 use Rattle.std.proofs.lemmas.List.Elements.{Contains-append_left, Contains-push, Contains-push_cases, Contains-get_or}
 use Rattle.std.proofs.lemmas.List.{take_more}
-use Rattle.std.proofs.Common.{get_or-take, length-take}
+use Rattle.std.proofs.Common.{append_assoc, append-nil, get_or-take, length-append, length-take}
+use lib.ListN.{get_or-append}
+use lib.Seq.{get_or-append_seam}
 use Rattle.cops_types.specs.declared.op.OpName.{OpName}
 use Rattle.cops_types.specs.Faults.{IsBefore, Lists}
 use Rattle.cops_audit.specs.Names.{ListsAmong}
@@ -87,6 +89,48 @@ earlier Before xs i d in_order inside m at =
     let same : get_or xs at.0 m ≡ m = sym (get_or-take i xs at.0 m (omega (arith, at.1, short))) ∙ at.2 in
     let same_d : get_or xs i m ≡ get_or xs i d = get_or-default xs i m d inside in
     subst (λ x. Before x (get_or xs i d)) same (subst (λ x. Before (get_or xs at.0 m) x) same_d (in_order at.0 i m (omega (arith, at.1, short)) inside))
+
+pub next_split : (names yielded left rest : List OpName) (n : OpName) → names ≡ yielded ++ left → left ≡ n ∷ rest → names ≡ (yielded ++ n ∷ []) ++ rest
+next_split names yielded left rest n split first = split ∙ ap (λ ns. yielded ++ ns) first ∙ sym (append_assoc yielded (n ∷ []) rest)
+
+-- what comes before the next name in an ordered list
+pub before_next : (names yielded rest : List OpName) (n : OpName) → AllPairs IsBefore names → names ≡ yielded ++ n ∷ rest → (m : OpName) → Contains yielded m → IsBefore m n
+before_next names yielded rest n in_order split m at =
+    let pairs : AllPairs IsBefore (yielded ++ n ∷ rest) = subst (AllPairs IsBefore) split in_order in
+    let long = length-append yielded (n ∷ rest) in
+    let first = get_or-append yielded (n ∷ rest) m at.0 at.1 ∙ at.2 in
+    let next = get_or-append_seam yielded n rest m in
+    subst (λ x. IsBefore x n) first (subst (IsBefore (get_or (yielded ++ n ∷ rest) at.0 m)) next (pairs at.0 (length yielded) m at.1 (omega (arith, long))))
+
+-- a loop over names: those that it has seen, those that are left, and the faults among those that it has seen
+pub record Collected {A : Type 0} (name_of : A → OpName) (IsFault : A → Type 0) (names yielded left : List OpName) (faults : List A) : Type 0 where
+  pub split : names ≡ yielded ++ left
+  pub lists : ListsAmong name_of IsFault yielded faults
+
+module _ {A : Type 0} (name_of : A → OpName) (IsFault : A → Type 0) where
+  pub collected_none : {names left : List OpName} {faults : List A} → left ≡ names → faults ≡ [] → Collected name_of IsFault names [] left faults
+  collected_none whole empty = record { split = sym whole; lists = subst (ListsAmong name_of IsFault []) (sym empty) (among_none name_of IsFault) }
+
+  -- the next name, of which there is no fault
+  pub collect_skip : {names yielded left rest : List OpName} {n : OpName} {faults : List A} → Collected name_of IsFault names yielded left faults → left ≡ n ∷ rest
+      → ((x : A) → IsFault x → name_of x ≡ n → ⊥) → Collected name_of IsFault names (yielded ++ n ∷ []) rest faults
+  collect_skip {names} {yielded} {left} {rest} {n} {faults} so_far first none = record {
+    split = next_split names yielded left rest n so_far.split first;
+    lists = among_skip name_of IsFault yielded n faults so_far.lists none;
+  }
+
+  -- the next name, with its fault
+  pub collect_push : {names yielded left rest : List OpName} {n : OpName} {faults pushed : List A} (y : A) → AllPairs IsBefore names → Collected name_of IsFault names yielded left faults → left ≡ n ∷ rest
+      → pushed ≡ faults ++ y ∷ [] → name_of y ≡ n → IsFault y → ((x : A) → IsFault x → name_of x ≡ name_of y → x ≡ y) → Collected name_of IsFault names (yielded ++ n ∷ []) rest pushed
+  collect_push {names} {yielded} {left} {rest} {n} {faults} {pushed} y in_order so_far first is same fault one = record {
+    split = next_split names yielded left rest n so_far.split first;
+    lists = subst (ListsAmong name_of IsFault (yielded ++ n ∷ [])) (sym is) (subst (λ m. ListsAmong name_of IsFault (yielded ++ m ∷ []) (faults ++ y ∷ [])) same
+        (among_push name_of IsFault yielded faults y so_far.lists fault one
+        (λ m at. subst (IsBefore m) (sym same) (before_next names yielded rest n in_order (so_far.split ∙ ap (λ ns. yielded ++ ns) first) m at))));
+  }
+
+  pub collected_all : {names yielded left : List OpName} {faults : List A} → Collected name_of IsFault names yielded left faults → left ≡ [] → ListsAmong name_of IsFault names faults
+  collected_all {names} {yielded} {left} {faults} so_far last = subst (λ ns. ListsAmong name_of IsFault ns faults) (sym (so_far.split ∙ ap (λ ns. yielded ++ ns) last ∙ append-nil yielded)) so_far.lists
 
 -- the list so far, with the next name
 module _ {A : Type 0} (name_of : A → OpName) (IsFault : A → Type 0) (names : List OpName) (in_order : AllPairs IsBefore names) (i : ℕ) (inside : i < length names) where

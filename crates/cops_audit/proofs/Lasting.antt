@@ -1,5 +1,5 @@
 -- The verdict so far, from the faults of each class.
-use Rattle.std.proofs.Common.{◌≡◌, ◌∙◌, ◌<◌, ℕ, Bool, true, false, List, get_or, length, sym, subst, inl, inr}
+use Rattle.std.proofs.Common.{◌≡◌, ◌∙◌, Bool, true, false, Contains, List, sym, subst, inl, inr}
 use Rattle.cops_types.specs.declared.op.OpName.{OpName}
 use Rattle.cops_types.specs.Histories.{Sessions, IsNamed, PutsVersion, SourceStep}
 use Rattle.cops_types.specs.Faults.{HasNoSource, Lists}
@@ -56,10 +56,8 @@ module _ (h : Sessions) (doubled : NoneDoubled h) where
       waits.none m.1 (subst (λ v. PutsVersion h m.1 v) (one_get_version h m.0 f.version waits.version f.gets waits.gets) f.puts)
 
 -- where each of the names without a source waits, each get without a source does
-pub all_wait : {h : Sessions} {names : List OpName} → Lists (λ n. n) (IsNamed h) names → ((k : ℕ) (d : OpName) → k < length names → HasNoSource h (get_or names k d) → IsWaiting h (get_or names k d)) → HaveSourcesOrWait h
-all_wait {h} all waits n f =
-    let at = (all.members n).1 (_, f.got) in
-    subst (IsWaiting h) at.2 (waits at.0 n at.1 (subst (HasNoSource h) (sym at.2) f))
+pub all_wait : {h : Sessions} {names : List OpName} → Lists (λ n. n) (IsNamed h) names → ((got : OpName) → Contains names got → HasNoSource h got → IsWaiting h got) → HaveSourcesOrWait h
+all_wait {h} all waits n f = waits n ((all.members n).1 (_, f.got)) f
 
 -- the gets without a source are all the gets that wait
 pub waiting_listed : (h : Sessions) (gets : List OpName) → Lists (λ n. n) (HasNoSource h) gets → HaveSourcesOrWait h → Lists (λ n. n) (IsWaiting h) gets
@@ -73,9 +71,6 @@ pub not_true : {b : Bool} → b ≡ false → ¬ (b ≡ true)
 not_true f t = let e : true ≡ false = sym t ∙ f in cc
 
 -- names, or a table, or the summaries by it, in an equal list
-pub seen_names : {seen names : List OpName} (h : Sessions) → seen ≡ names → Lists (λ n. n) (IsNamed h) names → Lists (λ n. n) (IsNamed h) seen
-seen_names h e all = subst (Lists (λ n. n) (IsNamed h)) (sym e) all
-
 pub seen_table : {h : Sessions} {seen table : List VersionedPut} → seen ≡ table → IsVersionTable h table → IsVersionTable h seen
 seen_table {h} e t = subst (IsVersionTable h) (sym e) t
 
@@ -88,12 +83,11 @@ pub record Waits (h : Sessions) (gets : List OpName) : Type 0 where
   pub waiting : Lists (λ n. n) (IsWaiting h) gets
 
 -- the verdict so far where the names have no lasting fault of any class, and those without a source are listed
-pub waits : {h : Sessions} {table : List VersionedPut} {summaries : List (List Summary)} {names same_names gets : List OpName} → Lists (λ n. n) (IsNamed h) names → IsVersionTable h table → IsSummarized h table summaries
-    → ((k : ℕ) (d : OpName) → k < length names → HasNoSource h (get_or names k d) → IsWaiting h (get_or names k d))
-    → AllAbove h → NoneStale h → Lists (λ n. n) (IsNamed h) same_names → ListsAmong (λ n. n) (IsSourceless summaries) same_names gets → Waits h gets
-waits {h} {table} {summaries} {names} {same_names} {gets} all t summarized waiting above stale same_all listed =
+pub waits : {h : Sessions} {table : List VersionedPut} {summaries : List (List Summary)} {names gets : List OpName} → Lists (λ n. n) (IsNamed h) names → IsVersionTable h table → IsSummarized h table summaries
+    → ((got : OpName) → Contains names got → HasNoSource h got → IsWaiting h got) → AllAbove h → NoneStale h → ListsAmong (λ n. n) (IsSourceless summaries) names gets → Waits h gets
+waits {h} {table} {summaries} {names} {gets} all t summarized waiting above stale listed =
     let sources = all_wait all waiting in
     record {
       lasting = no_lasting_fault h (none_doubled h table t) sources above stale;
-      waiting = waiting_listed h gets (sourceless_listed h same_names same_all table t summaries summarized gets listed) sources;
+      waiting = waiting_listed h gets (sourceless_listed h names all table t summaries summarized gets listed) sources;
     }

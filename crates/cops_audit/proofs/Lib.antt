@@ -6,6 +6,7 @@ pub mod Members
 pub mod PastOrder
 pub mod Exact
 pub mod Listing
+pub mod Naming
 pub mod Collect
 pub mod Filtering
 pub mod Ranges

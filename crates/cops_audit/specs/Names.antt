@@ -1,13 +1,31 @@
--- Names in their order, up to where a loop is.
-use Rattle.std.specs.Prelude.{◌↔◌, ℕ, List, Contains, AllPairs}
+-- The names of a history's operations, in their order: session by session.
+use Rattle.std.specs.Prelude.{◌+◌, ◌↔◌, ℕ, List, [], ◌∷◌, ◌++◌, Contains, AllPairs, drop, slice_index_or, take}
 use Rattle.cops_types.specs.declared.op.OpName.{OpName}
-use Rattle.cops_types.specs.Histories.{Sessions, IsNamed}
+use Rattle.cops_types.specs.Histories.{Operation, Sessions}
 use Rattle.cops_types.specs.Faults.{IsBefore}
+use Rattle.cops_audit.specs.declared.names.Names.{Names}
 
--- exactly the names of the history that come before this place, in order
-pub record ListsBefore (h : Sessions) (client index : ℕ) (names : List OpName) : Type 0 where
-  pub members : (n : OpName) → Contains names n ↔ (IsNamed h n × IsBefore n (record { client = client; index = index }))
-  pub in_order : AllPairs IsBefore names
+-- the names of a client's operations, of which the first has this index
+abbrev pub session_names : ℕ → ℕ → List Operation → List OpName
+session_names client index [] = []
+session_names client index (op ∷ ops) = record { client = client; index = index } ∷ session_names client (index + 1) ops
+
+-- the names of the operations of sessions, of which the first is this client's
+abbrev pub names_from : ℕ → Sessions → List OpName
+names_from client [] = []
+names_from client (session ∷ sessions) = session_names client 0 session ++ names_from (client + 1) sessions
+
+-- all names of a history
+abbrev pub names_of : Sessions → List OpName
+names_of h = names_from 0 h
+
+-- the names from a client's operation on
+abbrev pub names_after : Sessions → ℕ → ℕ → List OpName
+names_after h client index = session_names client index (drop index (slice_index_or h client [])) ++ names_from (client + 1) (drop (client + 1) h)
+
+-- the names that an iterator has still to give
+abbrev pub names_left : Names → List OpName
+names_left names = take names.left (names_after names.history.now.sessions names.client names.index)
 
 -- exactly the faults whose names are among these, in order of names
 pub record ListsAmong {A : Type 0} (name_of : A → OpName) (IsFault : A → Type 0) (names : List OpName) (faults : List A) : Type 0 where

@@ -1,21 +1,16 @@
 -- The vectors that the search for faults fills, with capacity for a history.
-use Rattle.std.specs.Prelude.{◌≡◌, ◌≤◌, ℕ, List, [], length, map, vec_capacity}
-use Rattle.cops_types.specs.Histories.{Sessions, IsNamed}
-use Rattle.cops_types.specs.Faults.{Lists}
+use Rattle.std.specs.Prelude.{◌≡◌, ◌≤◌, ℕ, List, [], length, vec_capacity}
+use Rattle.cops_types.specs.Histories.{Sessions}
 use Rattle.cops_types.specs.Counts.{count_of}
-use Rattle.cops_types.specs.Recorded.{IsWithinLimits, Recorded}
+use Rattle.cops_types.specs.Recorded.{IsWithinLimits}
 use Rattle.cops_audit.specs.declared.summaries.Summary.{Summary}
 use Rattle.cops_audit.specs.declared.room.Scratch.{Scratch}
-use Rattle.cops_audit.specs.Floors.{AreFloors}
-use Rattle.cops_audit.specs.KeyIndexes.{HasCapacity, IsKeyIndex}
+use Rattle.cops_audit.specs.KeyIndexes.{HasCapacity}
 use Rattle.cops_audit.specs.Summaries.{Flat, IsSummarized}
-use Rattle.cops_audit.specs.Sweeps.{HasRoom, IsIdle}
 use Rattle.cops_audit.specs.Tables.{IsVersionTable}
-use Rattle.cops_audit.specs.Windows.{AreAllSuspects}
 
 -- capacity for `count` operations
 pub record HasSpace (count : ℕ) (room : Scratch) : Type 0 where
-  pub names : count ≤ vec_capacity room.names
   pub table : count ≤ vec_capacity room.table
   pub places : count ≤ vec_capacity room.places
   pub keys : HasCapacity count room.keys
@@ -23,13 +18,6 @@ pub record HasSpace (count : ℕ) (room : Scratch) : Type 0 where
   pub floors : count ≤ vec_capacity room.floors
   pub pending : count ≤ vec_capacity room.sweep.pending
   pub newest : count ≤ length room.sweep.newest
-
--- all names, and the puts in order of versions without duplicates
-pub record IsFilled (h : Sessions) (room : Scratch) : Type 0 where
-  pub names : Lists (λ n. n) (IsNamed h) room.names.items
-  pub count : length room.names.items ≡ count_of h
-  pub table : IsVersionTable h room.table.items
-  pub few : length room.table.items ≤ count_of h
 
 -- the same counts, and still nothing to visit
 pub record IsSameButSpace (old new : Scratch) : Type 0 where
@@ -56,11 +44,3 @@ pub record IsSummarizedIn (h : Sessions) (room : Scratch) (sessions : List (List
   pub table : IsVersionTable h room.table.items
   pub few : length room.table.items ≤ count_of h
   pub summaries : IsSummarized h room.table.items sessions
-
--- the gets that may be stale are listed, with the puts by their keys and with floors, and the sweep is at its start
-pub record IsSuspected (r : Recorded) (room : Scratch) (summaries : List (List Summary)) : Type 0 where
-  pub suspects : AreAllSuspects r.sessions room.table.items room.suspects.items
-  pub keys : IsKeyIndex r room.table.items room.keys
-  pub floors : AreFloors room.suspects.items room.floors.items
-  pub idle : IsIdle (length r.sessions) (length room.table.items) room.sweep
-  pub space : HasRoom room.space (map length summaries) room.sweep

@@ -1,12 +1,11 @@
 -- Gets that may be stale.
-use Rattle.std.specs.Prelude.{◌≡◌, ◌<◌, ◌≤◌, ◌+◌, ◌⊎◌, ℕ, List, Option, Contains, AllPairs, length, slice_index_or, sum_by, take}
+use Rattle.std.specs.Prelude.{◌≡◌, ◌<◌, ◌≤◌, ◌⊎◌, ℕ, List, Option, Contains, AllPairs, length, slice_index_or}
 use Rattle.cops_types.specs.declared.op.OpName.{OpName}
 use Rattle.cops_types.specs.Histories.{Sessions, IsGot, IsMissed, IsNamed, PutsKey, SourceStep}
-use Rattle.cops_types.specs.Faults.{IsBefore, IsNewer, Lists}
+use Rattle.cops_types.specs.Faults.{IsBefore, IsNewer}
 use Rattle.cops_types.specs.declared.versioned_put.VersionedPut.{VersionedPut}
 use Rattle.cops_audit.specs.declared.window.Suspect.{Suspect}
 use Rattle.cops_audit.specs.Keys.{IsFirstOn, OnKey}
-use Rattle.cops_audit.specs.Names.{ListsBefore}
 use Rattle.cops_audit.specs.Summaries.{StandsAt}
 
 -- a put of this version on the key, which is newer than what was returned if it is in the past
@@ -43,15 +42,3 @@ pub record AreSuspects (h : Sessions) (table : List VersionedPut) (names : List 
 pub record AreSuspectsInOrder (h : Sessions) (table : List VersionedPut) (suspects : List Suspect) : Type 0 where
   pub each : (k : ℕ) (d : Suspect) → k < length suspects → IsSuspect h table (slice_index_or suspects k d)
   pub in_order : AllPairs (λ s t. IsBefore s.op t.op) suspects
-
--- the suspects among all names
-abbrev pub AreAllSuspects : Sessions → List VersionedPut → List Suspect → Type 0
-AreAllSuspects h table suspects = (names : List OpName) × Lists (λ n. n) (IsNamed h) names × AreSuspects h table names suspects
-
--- the suspects among the names before this place
-pub record AreSuspectsBefore (h : Sessions) (table : List VersionedPut) (client index : ℕ) (suspects : List Suspect) : Type 0 where
-  pub names : List OpName
-  pub listed : ListsBefore h client index names
-  pub count : length names ≡ sum_by length (take client h) + index
-  pub are : AreSuspects h table names suspects
-  pub few : length suspects ≤ length names

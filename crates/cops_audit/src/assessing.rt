@@ -1,18 +1,20 @@
-ghost use Rattle.std.specs.Prelude.{◌≡◌, ◌<◌, ℕ, IfOk, IsOk, IsTrue, OnOk, length, slice_index_or};
+ghost use Rattle.std.specs.Prelude.{◌≡◌, ◌≤◌, Contains, IfOk, IsOk, IsTrue, OnOk, length};
 ghost use Rattle.cops_types.specs.declared.op.OpName.{OpName};
+ghost use Rattle.cops_types.specs.Counts.{count_of};
 ghost use Rattle.cops_types.specs.Faults.{HasNoSource, IsStale};
 ghost use Rattle.cops_types.specs.Recorded.{IsWithinLimits};
 ghost use Rattle.cops_types.specs.Verdicts.{AllAbove, NoneStale};
+ghost use Rattle.cops_audit.specs.Names.{names_left};
 ghost use Rattle.cops_audit.specs.Summaries.{IsSummarized};
 ghost use Rattle.cops_audit.specs.Placing.{ArePutPlaces};
-ghost use Rattle.cops_audit.specs.Rooms.{Fits, IsFilled, IsSummarizedIn, IsReady, IsSuspected};
+ghost use Rattle.cops_audit.specs.Rooms.{Fits, IsSummarizedIn, IsReady};
 ghost use Rattle.cops_audit.specs.SoFar.{HaveSourcesOrWait, IsMismatched, IsSoFar, IsWaiting};
 ghost use Rattle.cops_audit.specs.Tables.{IsVersionTable};
 
 use crate::analysis::Analysis;
 use crate::flat::FlatSummaries;
 use crate::floors::set_floors;
-use crate::names::set_names;
+use crate::names::Names;
 use crate::put_places::set_places;
 use crate::room::Scratch;
 use crate::stale::has_stale;
@@ -44,16 +46,16 @@ fn has_mismatched(
     history: &History,
     table: &[VersionedPut],
     summaries: &Summaries,
-    names: &[OpName],
+    names: Names<'_>,
 ) -> bool
     requires table { IsVersionTable history.now.sessions table.now }
     requires summaries { IsSummarized history.now.sessions table.now summaries.now }
     ensures mismatched { IsTrue result → (got : OpName) × (put : OpName) × IsMismatched history.now.sessions got put }
-    ensures waiting { ¬ IsTrue result → (k : ℕ) (d : OpName) → k < length names.now → HasNoSource history.now.sessions (slice_index_or names.now k d) → IsWaiting history.now.sessions (slice_index_or names.now k d) }
+    ensures waiting { ¬ IsTrue result → (got : OpName) → Contains (names_left names.entry) got → HasNoSource history.now.sessions got → IsWaiting history.now.sessions got }
 {
     for got in names {
-        if is_sourceless(summaries, *got) {
-            if is_mismatched(history, table, *got) {
+        if is_sourceless(summaries, got) {
+            if is_mismatched(history, table, got) {
                 return true;
             }
         }
@@ -62,19 +64,18 @@ fn has_mismatched(
 }
 
 impl Scratch {
-    /// Finds the gets that may be stale, in a history where each get has its source or no put has its version yet, and
-    /// each put is above what its session saw. It allocates nothing and always returns `Ok`.
-    pub fn suspect(&mut self, history: &History, summaries: &Summaries) -> Result<(), AllocError>
+    /// Whether a get is stale, in a history where each get has its source or no put has its version yet, and each put is
+    /// above what its session saw. It allocates nothing and always returns `Ok`.
+    fn has_stale(&mut self, history: &History, summaries: &Summaries) -> Result<bool, AllocError>
         requires summarized { IsSummarizedIn history.now.sessions self.old summaries.now }
         requires places { ArePutPlaces history.now.puts self.old.table.items self.old.places.items }
         requires sources { HaveSourcesOrWait history.now.sessions }
         requires above { AllAbove history.now.sessions }
         ensures ok { IsOk result }
-        ensures suspected { OnOk result (IsSuspected history.now self.new summaries.now) }
+        ensures stale { IfOk result (λ found. IsTrue found → (name : OpName) × (newer : OpName) × IsStale history.now.sessions name newer) }
+        ensures none { IfOk result (λ found. ¬ IsTrue found → NoneStale history.now.sessions) }
         ensures ready { OnOk result (IsReady history.now.sessions self.new) }
         ensures space { OnOk result (self.new.space ≡ self.old.space) }
-        ensures names { OnOk result (self.new.names ≡ self.old.names) }
-        ensures table { OnOk result (self.new.table ≡ self.old.table) }
     {
         let places = self.places.as_slice();
         self.keys.fill(history, self.table.as_slice(), places)?;
@@ -86,35 +87,10 @@ impl Scratch {
             by_key: self.keys.by_key.as_slice(),
             firsts: self.keys.firsts.as_slice(),
         };
-        set_suspects(&mut self.suspects, &analysis)?;
-        set_floors(&mut self.floors, self.suspects.as_slice())?;
-        self.sweep.restart();
-        Ok(())
-    }
-
-    /// Whether a get is stale, in a history as for `suspect`. It allocates nothing and always returns `Ok`.
-    fn has_stale(&mut self, history: &History, summaries: &Summaries) -> Result<bool, AllocError>
-        requires summarized { IsSummarizedIn history.now.sessions self.old summaries.now }
-        requires places { ArePutPlaces history.now.puts self.old.table.items self.old.places.items }
-        requires sources { HaveSourcesOrWait history.now.sessions }
-        requires above { AllAbove history.now.sessions }
-        ensures ok { IsOk result }
-        ensures stale { IfOk result (λ found. IsTrue found → (name : OpName) × (newer : OpName) × IsStale history.now.sessions name newer) }
-        ensures none { IfOk result (λ found. ¬ IsTrue found → NoneStale history.now.sessions) }
-        ensures ready { OnOk result (IsReady history.now.sessions self.new) }
-        ensures space { OnOk result (self.new.space ≡ self.old.space) }
-        ensures names { OnOk result (self.new.names ≡ self.old.names) }
-    {
-        self.suspect(history, summaries)?;
-        let analysis = Analysis {
-            history,
-            table: self.table.as_slice(),
-            summaries,
-            nexts: self.keys.nexts.as_slice(),
-            by_key: self.keys.by_key.as_slice(),
-            firsts: self.keys.firsts.as_slice(),
-        };
+        set_suspects(&mut self.suspects, &analysis, Names::all(history))?;
         let suspects = self.suspects.as_slice();
+        set_floors(&mut self.floors, suspects)?;
+        self.sweep.restart();
         let floors = self.floors.as_slice();
         let found = has_stale(&mut self.sweep, &analysis, suspects, floors)?;
         Ok(found)
@@ -130,22 +106,20 @@ impl Scratch {
         requires above { AllAbove history.now.sessions }
         requires summarized { IsSummarizedIn history.now.sessions self.old summaries.now }
         requires places { ArePutPlaces history.now.puts self.old.table.items self.old.places.items }
-        requires filled { IsFilled history.now.sessions self.old }
         ensures ok { IsOk result }
         ensures so_far { IfOk result (IsSoFar history.now.sessions) }
         ensures ready { OnOk result (IsReady history.now.sessions self.new) }
         ensures space { OnOk result (self.new.space ≡ self.old.space) }
     {
         let table = self.table.as_slice();
-        let names = self.names.as_slice();
-        if has_mismatched(history, table, summaries, names) {
+        if has_mismatched(history, table, summaries, Names::all(history)) {
             return Ok(SoFar::Refused);
         }
         let stale = self.has_stale(history, summaries)?;
         if stale {
             return Ok(SoFar::Refused);
         }
-        let waiting = count_sourceless(summaries, self.names.as_slice());
+        let waiting = count_sourceless(summaries, Names::all(history));
         if waiting == 0 {
             return Ok(SoFar::Clean);
         }
@@ -162,7 +136,8 @@ impl Scratch {
         requires above { AllAbove history.now.sessions }
         requires fits { Fits history.now.sessions self.old flat.old }
         requires limits { IsWithinLimits history.now.sessions }
-        requires filled { IsFilled history.now.sessions self.old }
+        requires table { IsVersionTable history.now.sessions self.old.table.items }
+        requires few { length self.old.table.items ≤ count_of history.now.sessions }
         ensures ok { IsOk result }
         ensures so_far { IfOk result (IsSoFar history.now.sessions) }
         ensures fits { OnOk result (Fits history.now.sessions self.new flat.new) }
@@ -189,7 +164,6 @@ impl Scratch {
         if !history.are_puts_above() {
             return Ok(SoFar::Refused);
         }
-        set_names(&mut self.names, history);
         set_puts(&mut self.table, history)?;
         if !is_rising(self.table.as_slice()) {
             return Ok(SoFar::Refused);

@@ -3,8 +3,10 @@ ghost use Rattle.cops_types.specs.declared.op.OpName.{OpName};
 ghost use Rattle.cops_types.specs.Histories.{Sessions};
 ghost use Rattle.cops_types.specs.Faults.{HasVersion, IsBefore, IsNotAbove, IsNotBelow};
 ghost use Rattle.cops_audit.specs.Climbs.{AreMaxima};
-ghost use Rattle.cops_audit.specs.Names.{ListsAmong};
+ghost use Rattle.cops_audit.specs.Names.{names_left};
+ghost use Rattle.cops_audit.specs.Verdicts.{ListsNotAbove};
 
+use crate::names::Names;
 use crate::verdict::NotAbove;
 use cops_types::{History, OpName};
 use std::alloc::{AllocError, Global};
@@ -113,10 +115,10 @@ fn earlier_not_below(
 pub fn not_above(
     alloc: Global,
     history: &History,
-    names: &[OpName],
+    names: Names<'_>,
 ) -> Result<Vec<NotAbove>, AllocError>
-    requires { AllPairs IsBefore names.now }
-    ensures { IfOk result (λ v. ListsAmong (λ f. f.op) (λ f. IsNotAbove history.now.sessions f.op f.earlier) names.now v.items) }
+    requires { AllPairs IsBefore (names_left names) }
+    ensures { IfOk result (λ v. ListsNotAbove history.now.sessions (names_left names.entry) v.items) }
 {
     let mut faults = Vec::new(alloc);
     let mut maxima = Vec::new(alloc);
@@ -126,9 +128,9 @@ pub fn not_above(
             maxima.clear();
         }
         client = name.client;
-        let found = earlier_not_below(&mut maxima, history, *name)?;
+        let found = earlier_not_below(&mut maxima, history, name)?;
         if let Some(earlier) = found {
-            faults.push(NotAbove { op: *name, earlier })?;
+            faults.push(NotAbove { op: name, earlier })?;
         }
     }
     Ok(faults)

@@ -14,7 +14,6 @@ mod assessing;
 mod cleared;
 mod climbing;
 mod clocks;
-mod concluding;
 mod epochs;
 mod fault;
 mod feed_fault;

@@ -1,50 +1,101 @@
-ghost use Rattle.cops_types.specs.declared.limits.TheConstants.{MAX_OPS};
-ghost use Rattle.std.specs.Prelude.{IfOk, ◌≡◌, ◌+◌, ◌≤◌, length, vec_len, vec_capacity, slice_index_or, []};
-ghost use Rattle.cops_types.specs.Histories.{IsNamed};
-ghost use Rattle.cops_types.specs.Recorded.{IsWithinLimits};
-ghost use Rattle.cops_types.specs.Counts.{count_of};
-ghost use Rattle.cops_types.specs.Faults.{Lists};
-ghost use Rattle.cops_audit.specs.Names.{ListsBefore};
-
 use cops_types::{History, OpName};
-use std::alloc::{AllocError, Global};
 
-/// Adds the names of the operations of one session. The vector must have the capacity for them.
-fn push_session(names: &mut Vec<OpName>, history: &History, client: u16)
-    requires names { ListsBefore history.now.sessions client 0 names.old.items }
-    requires room { vec_len names.old + length (slice_index_or history.now.sessions client []) ≤ vec_capacity names.old }
-    ensures names { ListsBefore history.now.sessions client (length (slice_index_or history.now.sessions client [])) names.new.items }
-    ensures count { vec_len names.new ≡ vec_len names.old + length (slice_index_or history.now.sessions client []) }
-    ensures capacity { vec_capacity names.new ≡ vec_capacity names.old }
-{
-    for index in 0..history.session_len(client) {
-        let index = index as u32;
-        names.push_reserved(OpName { client, index });
+/// The names of operations of a history, in their order: at most `left` of those from the operation `index` of a client
+/// on.
+#[derive(Drop)]
+pub struct Names<'a> {
+    history: &'a History,
+    client: u16,
+    index: u32,
+    left: usize,
+}
+
+impl<'a> Names<'a> {
+    ghost use Rattle.std.specs.Prelude.{◌≡◌, ◌<◌, ◌+◌, [], IsTrue, length, slice_index_or, slice_range};
+    ghost use Rattle.cops_types.specs.declared.limits.TheConstants.{MAX_CLIENT_OPS};
+    ghost use Rattle.cops_types.specs.Counts.{count_of};
+    ghost use Rattle.cops_audit.specs.Names.{names_after, names_left, names_of};
+
+    /// The names of `len` operations, from the place `start` on.
+    pub fn range(history: &'a History, start: usize, len: usize) -> Self
+        ensures { names_left result ≡ slice_range (names_of history.now.sessions) start (start + len) }
+    {
+        let mut index = start;
+        for client in 0..history.clients() {
+            let client = client as u16;
+            let count = history.session_len(client);
+            if index < count {
+                return Names {
+                    history,
+                    client,
+                    index: index as u32,
+                    left: len,
+                };
+            }
+            index -= count;
+        }
+        Names {
+            history,
+            client: 0,
+            index: 0,
+            left: 0,
+        }
+    }
+
+    /// The names of all operations.
+    pub fn all(history: &'a History) -> Self
+        ensures names { names_left result ≡ names_of history.now.sessions }
+        ensures count { length (names_of history.now.sessions) ≡ count_of history.now.sessions }
+    {
+        Names::range(history, 0, history.len())
+    }
+
+    /// Goes on to the next operation, where a session is at its end. Returns whether there is one.
+    #[inline(always)]
+    fn go_on(&mut self) -> bool
+        ensures history { self.new.history ≡ self.old.history }
+        ensures left { self.new.left ≡ self.old.left }
+        ensures there { IsTrue result → self.new.index < length (slice_index_or self.old.history.now.sessions self.new.client []) }
+        ensures small { IsTrue result → self.new.index < MAX_CLIENT_OPS }
+        ensures same { IsTrue result → names_after self.old.history.now.sessions self.new.client self.new.index ≡ names_after self.old.history.now.sessions self.old.client self.old.index }
+        ensures none { ¬ IsTrue result → names_after self.old.history.now.sessions self.old.client self.old.index ≡ [] }
+    {
+        for client in self.client as usize..self.history.clients() {
+            self.client = client as u16;
+            if (self.index as usize) < self.history.session_len(self.client) {
+                return true;
+            }
+            self.index = 0;
+        }
+        false
     }
 }
 
-/// Fills `names` with the names of all operations, in their order. The vector must have the capacity for them.
-pub fn set_names(names: &mut Vec<OpName>, history: &History)
-    requires { count_of history.now.sessions ≤ vec_capacity names.old }
-    ensures names { Lists (λ n. n) (IsNamed history.now.sessions) names.new.items }
-    ensures count { vec_len names.new ≡ count_of history.now.sessions }
-    ensures limits { IsWithinLimits history.now.sessions }
-    ensures capacity { vec_capacity names.new ≡ vec_capacity names.old }
-{
-    names.clear();
-    for client in 0..history.clients() {
-        push_session(names, history, client as u16);
-    }
-}
+impl<'a> Iterator for Names<'a> {
+    ghost use Rattle.std.specs.Iterator.{YieldsFirst, item_count};
+    ghost use Rattle.cops_audit.specs.Names.{names_left};
 
-/// The names of all operations, in their order.
-pub fn all_names(alloc: Global, history: &History) -> Result<Vec<OpName>, AllocError>
-    ensures names { IfOk result (λ v. Lists (λ n. n) (IsNamed history.now.sessions) v.items) }
-    ensures count { IfOk result (λ v. vec_len v ≡ count_of history.now.sessions) }
-    ensures limits { IfOk result (λ _. IsWithinLimits history.now.sessions) }
-    ensures few { IfOk result (λ v. vec_len v ≤ MAX_OPS) }
-{
-    let mut names = Vec::with_capacity(alloc, history.len())?;
-    set_names(&mut names, history);
-    Ok(names)
+    type Item = OpName;
+
+    ghost next_gives = { YieldsFirst names_left };
+
+    ghost remaining = { item_count names_left };
+
+    #[inline(always)]
+    fn next(&mut self) -> Option<OpName> {
+        if self.left == 0 {
+            return None;
+        }
+        if !self.go_on() {
+            self.left = 0;
+            return None;
+        }
+        let name = OpName {
+            client: self.client,
+            index: self.index,
+        };
+        self.index += 1;
+        self.left -= 1;
+        Some(name)
+    }
 }

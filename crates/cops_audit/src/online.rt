@@ -1,6 +1,7 @@
 use crate::feed_fault::FeedFault;
 use crate::flat::FlatSummaries;
 use crate::judged::Judged;
+use crate::judging::judge;
 use crate::room::Scratch;
 use crate::verdict::{SoFar, Verdict};
 use cops_types::{History, Memory, Op, OpView};
@@ -140,23 +141,14 @@ impl Online {
         Ok(judged.into_verdict())
     }
 
-    /// The verdict on what was fed, with the history. It judges in the memory that is reserved and copies nothing that
-    /// was fed. While it judges it allocates memory for names and for causal summaries, 20 bytes for each operation.
-    /// The only error is `Memory`, where memory runs out.
+    /// The verdict on what was fed, with the history. The memory that is reserved for answers is freed before; `judge`
+    /// allocates what it needs. The only error is `Memory`, where memory runs out.
     pub fn close(self) -> Result<Judged, Memory>
         ensures { IfOk result (IsJudged self) }
     {
-        let Online {
-            alloc,
-            mut history,
-            mut room,
-            summaries,
-        } = self;
-        history.forget_candidates();
-        // The memory that is reserved for summaries is freed before `judge` builds them for all operations at once, in
-        // rounds, which is faster.
-        drop(summaries);
-        let verdict = room.judge(alloc, &history)?;
+        let alloc = self.alloc;
+        let history = self.into_history();
+        let verdict = judge(alloc, &history)?;
         Ok(Judged::new(history, verdict))
     }
 }

@@ -3,22 +3,18 @@ ghost use Rattle.cops_audit.specs.Placing.{AreSources};
 ghost use Rattle.cops_audit.specs.Tables.{IsPutTable};
 
 use crate::climbing::not_above;
-use crate::names::all_names;
+use crate::names::Names;
 use crate::sources::{Sources, find_sources, without_source};
 use crate::table::{doubled, is_rising, puts_by_version};
 use crate::verdict::{Faults, NotAbove, Verdict};
 use cops_types::{History, OpName, VersionedPut};
 use std::alloc::{AllocError, Global};
 use std::marker::Model;
-use std::thread;
-use std::thread::Threads;
 
-/// A history, the names of its operations in their order, its puts in order of versions, and the places of the sources
-/// of its pending reads.
+/// A history, its puts in order of versions, and the places of the sources of its pending reads.
 #[derive(Drop)]
 pub struct Puts<'a> {
     pub(crate) history: &'a History,
-    pub(crate) names: Vec<OpName>,
     pub(crate) table: Vec<VersionedPut>,
     pub(crate) sources: Sources,
 }
@@ -39,72 +35,35 @@ fn sources_where_rising(
 }
 
 impl<'a> Model for Puts<'a> {
+    ghost use Rattle.cops_audit.specs.Names.{names_of};
     ghost use Rattle.cops_audit.specs.Placing.{AreSources};
     ghost use Rattle.cops_audit.specs.Sorted.{IsSorted, Sorted};
 
     ghost Value = { Sorted };
 
-    ghost view = { λ p. record { sessions = p.history.now.sessions; names = p.names.items; table = p.table.items } };
+    ghost view = { λ p. record { sessions = p.history.now.sessions; names = names_of p.history.now.sessions; table = p.table.items } };
 
-    ghost invariant = { λ p. IsSorted (record { sessions = p.history.now.sessions; names = p.names.items; table = p.table.items })
+    ghost invariant = { λ p. IsSorted (record { sessions = p.history.now.sessions; names = names_of p.history.now.sessions; table = p.table.items })
         × AreSources p.history.now p.table.items p.sources };
 }
 
 impl<'a> Puts<'a> {
     ghost use Rattle.std.specs.Prelude.{◌≡◌, ◌≤◌, ◌+◌, IfOk, IfSome, IfNone, IsTrue, length, slice_range, AllPairs};
-    ghost use Rattle.cops_types.specs.Faults.{HasNoSource, IsBefore, IsNotAbove, Lists};
-    ghost use Rattle.cops_types.specs.Histories.{IsNamed};
-    ghost use Rattle.cops_types.specs.Recorded.{IsWithinLimits};
+    ghost use Rattle.cops_types.specs.Faults.{HasNoSource, IsBefore};
     ghost use Rattle.cops_types.specs.Verdicts.{AllAbove, AllHaveSources};
     ghost use Rattle.cops_types.specs.VersionOrder.{IsDoubled};
     ghost use Rattle.cops_audit.specs.Names.{ListsAmong};
-    ghost use Rattle.cops_audit.specs.Tables.{IsPutTable, Repeats, Rises};
-    ghost use Rattle.cops_audit.specs.Verdicts.{IsVerdict};
+    ghost use Rattle.cops_audit.specs.Tables.{Repeats, Rises};
+    ghost use Rattle.cops_audit.specs.Verdicts.{IsVerdict, ListsNotAbove};
 
     /// The puts of a history. The only error is `AllocError`, where memory runs out.
     pub fn new(alloc: Global, history: &'a History) -> Result<Self, AllocError>
         ensures { IfOk result (λ puts. puts.sessions ≡ history.entry.now.sessions) }
     {
-        let names = all_names(alloc, history)?;
         let table = puts_by_version(alloc, history)?;
         let sources = sources_where_rising(alloc, history, table.as_slice())?;
         Ok(Puts {
             history,
-            names,
-            table,
-            sources,
-        })
-    }
-
-    /// Like `new`, but with at most `threads` threads: with two or more, the names are listed in parallel with the
-    /// puts. The only error is `AllocError`, where memory runs out.
-    pub fn parallel<R: Threads + Sync>(
-        rt: &R,
-        alloc: Global,
-        history: &'a History,
-        threads: u8,
-    ) -> Result<Self, AllocError>
-        ensures { IfOk result (λ puts. puts.sessions ≡ history.entry.now.sessions) }
-    {
-        if threads < 2 {
-            return Puts::new(alloc, history);
-        }
-        let (names, table) = thread::join(
-            rt,
-            || -> Result<Vec<OpName>, AllocError>
-                ensures { IfOk result (λ v. Lists (λ n. n) (IsNamed history.entry.now.sessions) v.items) }
-            { all_names(alloc, history) },
-            || -> Result<Vec<VersionedPut>, AllocError>
-                ensures puts { IfOk result (λ v. IsPutTable history.entry.now.sessions v.items) }
-                ensures limits { IfOk result (λ _. IsWithinLimits history.entry.now.sessions) }
-            { puts_by_version(alloc, history) },
-        );
-        let names = names?;
-        let table = table?;
-        let sources = sources_where_rising(alloc, history, table.as_slice())?;
-        Ok(Puts {
-            history,
-            names,
             table,
             sources,
         })
@@ -115,7 +74,7 @@ impl<'a> Puts<'a> {
         ensures count { result ≡ length self.now.names }
         ensures in_order { AllPairs IsBefore self.now.names }
     {
-        self.names.len()
+        self.history.len()
     }
 
     /// Whether no two puts have the same version.
@@ -137,7 +96,7 @@ impl<'a> Puts<'a> {
         requires { start + len ≤ length self.now.names }
         ensures { IfOk result (λ v. ListsAmong (λ n. n) (IsDoubled self.now.sessions) (slice_range self.now.names start (start + len)) v.items) }
     {
-        let names = &self.names[start..start + len];
+        let names = Names::range(self.history, start, len);
         doubled(alloc, self.history, names, self.table.as_slice())
     }
 
@@ -166,7 +125,7 @@ impl<'a> Puts<'a> {
         if self.sources.are_all {
             return Ok(Vec::new(alloc));
         }
-        let names = &self.names[start..start + len];
+        let names = Names::range(self.history, start, len);
         without_source(alloc, self.history, self.table.as_slice(), names)
     }
 
@@ -179,12 +138,12 @@ impl<'a> Puts<'a> {
         len: usize,
     ) -> Result<Vec<NotAbove>, AllocError>
         requires { start + len ≤ length self.now.names }
-        ensures { IfOk result (λ v. ListsAmong (λ f. f.op) (λ f. IsNotAbove self.now.sessions f.op f.earlier) (slice_range self.now.names start (start + len)) v.items) }
+        ensures { IfOk result (λ v. ListsNotAbove self.now.sessions (slice_range self.now.names start (start + len)) v.items) }
     {
         if self.history.are_puts_above() {
             return Ok(Vec::new(alloc));
         }
-        let names = &self.names[start..start + len];
+        let names = Names::range(self.history, start, len);
         not_above(alloc, self.history, names)
     }
 
@@ -197,7 +156,7 @@ impl<'a> Puts<'a> {
     ) -> Option<Verdict>
         requires rising { Rises self.now.table }
         requires sourceless { ListsAmong (λ n. n) (HasNoSource self.now.sessions) self.now.names sourceless.items }
-        requires not_above { ListsAmong (λ f. f.op) (λ f. IsNotAbove self.now.sessions f.op f.earlier) self.now.names not_above.items }
+        requires not_above { ListsNotAbove self.now.sessions self.now.names not_above.items }
         ensures refused { IfSome result (IsVerdict self.now.sessions) }
         ensures sources { IfNone result (AllHaveSources self.now.sessions) }
         ensures above { IfNone result (AllAbove self.now.sessions) }

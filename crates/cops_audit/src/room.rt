@@ -6,17 +6,16 @@ use crate::flat::FlatSummaries;
 use crate::key_index::KeyIndex;
 use crate::sweep::{OpRange, Sweep};
 use crate::window::Suspect;
-use cops_types::{History, OpName, VersionedPut};
+use cops_types::{History, VersionedPut};
 use std::alloc::{AllocError, Global};
 
 /// The vectors that the search for faults fills, with capacity for a history as it grows: together with the causal
-/// summaries 96 bytes for each operation. A vector doubles as it grows, so up to twice as much may be reserved. The
+/// summaries 88 bytes for each operation. A vector doubles as it grows, so up to twice as much may be reserved. The
 /// memory is not touched until the search.
 #[derive(Drop)]
 pub struct Scratch {
     /// The number of operations that the capacity is for.
     pub space: usize,
-    pub names: Vec<OpName>,
     pub table: Vec<VersionedPut>,
     pub places: Vec<u32>,
     pub keys: KeyIndex,
@@ -52,7 +51,6 @@ impl Scratch {
         let sweep = Sweep::new(alloc, clients as usize, 0)?;
         Ok(Scratch {
             space: 0,
-            names: Vec::new(alloc),
             table: Vec::new(alloc),
             places: Vec::new(alloc),
             keys: KeyIndex::empty(alloc),
@@ -78,7 +76,6 @@ impl Scratch {
     {
         let space = (count + count / 4).max(LEAST_SPACE);
         summaries.reserve(space)?;
-        make_room(&mut self.names, space)?;
         make_room(&mut self.table, space)?;
         make_room(&mut self.places, space)?;
         make_room(&mut self.keys.nexts, space)?;

@@ -2,11 +2,12 @@ ghost use Rattle.std.specs.Prelude.{◌≡◌, ◌↔◌, [], false, Some, IfOk,
 ghost use Rattle.cops_types.specs.Histories.{Operation};
 ghost use Rattle.cops_types.specs.declared.op.OpName.{OpName};
 ghost use Rattle.cops_types.specs.Faults.{HasNoSource, IsBefore};
-ghost use Rattle.cops_audit.specs.Names.{ListsAmong};
+ghost use Rattle.cops_audit.specs.Names.{ListsAmong, names_left};
 ghost use Rattle.cops_audit.specs.Placing.{AreSources, IsSourcePlace};
 ghost use Rattle.cops_audit.specs.Tables.{IsVersionTable};
 
 use crate::hints::{Buckets, hinted_place};
+use crate::names::Names;
 use crate::op_version::OpVersion;
 use crate::put_places::NO_PLACE;
 use crate::summaries::{OpPlace, see};
@@ -106,16 +107,16 @@ pub fn without_source(
     alloc: Global,
     history: &History,
     table: &[VersionedPut],
-    names: &[OpName],
+    names: Names<'_>,
 ) -> Result<Vec<OpName>, AllocError>
     requires table { IsVersionTable history.now.sessions table.now }
-    requires in_order { AllPairs IsBefore names.now }
-    ensures { IfOk result (λ v. ListsAmong (λ n. n) (HasNoSource history.now.sessions) names.now v.items) }
+    requires in_order { AllPairs IsBefore (names_left names) }
+    ensures { IfOk result (λ v. ListsAmong (λ n. n) (HasNoSource history.now.sessions) (names_left names.entry) v.items) }
 {
     let mut faults = Vec::new(alloc);
     for name in names {
-        if is_sourceless(history, table, *name) {
-            faults.push(*name)?;
+        if is_sourceless(history, table, name) {
+            faults.push(name)?;
         }
     }
     Ok(faults)

@@ -4,6 +4,7 @@ ghost use Rattle.cops_types.specs.Faults.{IsBefore, IsStale};
 ghost use Rattle.cops_audit.specs.declared.window.Suspect.{Suspect};
 ghost use Rattle.cops_audit.specs.Analyses.{IsAnalysis};
 ghost use Rattle.cops_audit.specs.Verdicts.{ListsStale};
+ghost use Rattle.cops_audit.specs.Names.{names_left};
 ghost use Rattle.cops_audit.specs.Sweeps.{HasRoom, IsIdle};
 ghost use Rattle.cops_audit.specs.Floors.{AreFloors};
 ghost use Rattle.cops_audit.specs.Windows.{AreSuspects, AreSuspectsInOrder, NoneNewer};
@@ -11,10 +12,10 @@ ghost use Rattle.cops_audit.specs.Windows.{AreSuspects, AreSuspectsInOrder, None
 use crate::analysis::Analysis;
 use crate::cleared::clear;
 use crate::floors::{judge_next, set_floors};
+use crate::names::Names;
 use crate::sweep::Sweep;
 use crate::verdict::Stale;
-use crate::window::{Suspect, push_suspects};
-use cops_types::OpName;
+use crate::window::{Suspect, set_suspects};
 use std::alloc::{AllocError, Global};
 
 /// The stale gets among the suspects, each with the newest put on its key in its past. The sweep must have nothing
@@ -73,14 +74,14 @@ fn judge_suspects(
 pub fn stale_among(
     alloc: Global,
     analysis: &Analysis,
-    names: &[OpName],
+    names: Names<'_>,
 ) -> Result<Vec<Stale>, AllocError>
     requires analysis { IsAnalysis analysis.now }
-    requires in_order { AllPairs IsBefore names.now }
-    ensures { IfOk result (λ v. ListsStale analysis.now.history.now.sessions names.now v.items) }
+    requires in_order { AllPairs IsBefore (names_left names) }
+    ensures { IfOk result (λ v. ListsStale analysis.now.history.now.sessions (names_left names.entry) v.items) }
 {
     let mut found = Vec::new(alloc);
-    push_suspects(&mut found, analysis, names)?;
+    set_suspects(&mut found, analysis, names)?;
     if found.as_slice().is_empty() {
         return Ok(Vec::new(alloc));
     }

@@ -1,11 +1,11 @@
 ghost use Rattle.std.specs.Prelude.{◌≡◌, ◌<◌, ◌≤◌, ◌+◌, ◌^◌, ◌↔◌, List, IfOk, IfSome, OnOk, IsTrue, length, map, vec_len, All, AllPairs, slice_index_or, []};
-ghost use Rattle.cops_types.specs.declared.limits.TheConstants.{MAX_CLIENTS};
+ghost use Rattle.cops_types.specs.declared.limits.TheConstants.{MAX_CLIENTS, MAX_OPS};
 ghost use Rattle.cops_types.specs.declared.op.OpName.{OpName};
 ghost use Rattle.cops_types.specs.Histories.{IsNamed};
 ghost use Rattle.cops_types.specs.Operations.{GetsVersion};
 ghost use Rattle.cops_types.specs.Faults.{IsBefore};
 ghost use Rattle.cops_audit.specs.Analyses.{IsPutIndex};
-ghost use Rattle.cops_audit.specs.Names.{ListsAmong};
+ghost use Rattle.cops_audit.specs.Names.{ListsAmong, names_left};
 ghost use Rattle.cops_audit.specs.Summaries.{above as above_of, ArePrefixesSummarized, AreLongEnough, AreMarks, HasDone, IsPrefixSummarized, IsMark, IsSeen, IsSourceless};
 ghost use Rattle.cops_audit.specs.Tables.{IsVersionTable};
 ghost use Rattle.cops_types.specs.declared.versioned_put.VersionedPut.{VersionedPut};
@@ -13,6 +13,7 @@ ghost use Rattle.cops_types.specs.declared.versioned_put.VersionedPut.{Versioned
 use crate::analysis::PutIndex;
 use crate::flat::Span;
 use crate::hints::hinted_place;
+use crate::names::Names;
 use crate::op_version::OpVersion;
 use crate::put_places::{NO_PLACE, place_at};
 use crate::table::first_from;
@@ -353,13 +354,14 @@ pub fn is_sourceless(summaries: &Summaries, name: OpName) -> bool
 }
 
 /// How many of the gets among these names have no source.
-pub fn count_sourceless(summaries: &Summaries, names: &[OpName]) -> usize
-    requires { AllPairs IsBefore names.now }
-    ensures { (gets : List OpName) × ListsAmong (λ n. n) (IsSourceless summaries.now) names.now gets × (length gets ≡ result) }
+pub fn count_sourceless(summaries: &Summaries, names: Names<'_>) -> usize
+    requires in_order { AllPairs IsBefore (names_left names) }
+    requires few { length (names_left names) ≤ MAX_OPS }
+    ensures { (gets : List OpName) × ListsAmong (λ n. n) (IsSourceless summaries.now) (names_left names.entry) gets × (length gets ≡ result) }
 {
     let mut count = 0;
     for name in names {
-        if is_sourceless(summaries, *name) {
+        if is_sourceless(summaries, name) {
             count += 1;
         }
     }

@@ -5,10 +5,11 @@ ghost use Rattle.cops_types.specs.Histories.{Sessions};
 ghost use Rattle.cops_types.specs.Recorded.{IsWithinLimits};
 ghost use Rattle.cops_types.specs.Faults.{IsBefore};
 ghost use Rattle.cops_types.specs.VersionOrder.{IsDoubled};
-ghost use Rattle.cops_audit.specs.Names.{ListsAmong};
+ghost use Rattle.cops_audit.specs.Names.{ListsAmong, names_left};
 ghost use Rattle.cops_types.specs.declared.versioned_put.VersionedPut.{VersionedPut};
 ghost use Rattle.cops_audit.specs.Tables.{AreDoubledPuts, IsPutTable, Repeats, Rises, ReportDoubled, VersionsNeverFall};
 
+use crate::names::Names;
 use cops_types::{History, OpName, Version, VersionedPut};
 use std::alloc::{AllocError, Global};
 
@@ -146,19 +147,19 @@ fn is_doubled(history: &History, are_doubled: &[bool], name: OpName) -> bool
 pub fn doubled(
     alloc: Global,
     history: &History,
-    names: &[OpName],
+    names: Names<'_>,
     table: &[VersionedPut],
 ) -> Result<Vec<OpName>, AllocError>
-    requires in_order { AllPairs IsBefore names.now }
+    requires in_order { AllPairs IsBefore (names_left names) }
     requires table { IsPutTable history.now.sessions table.now }
-    ensures { IfOk result (λ v. ListsAmong (λ n. n) (IsDoubled history.now.sessions) names.now v.items) }
+    ensures { IfOk result (λ v. ListsAmong (λ n. n) (IsDoubled history.now.sessions) (names_left names.entry) v.items) }
 {
     let doubled = doubled_numbers(alloc, history, table)?;
     let are_doubled = doubled.as_slice();
     let mut faults = Vec::new(alloc);
     for name in names {
-        if is_doubled(history, are_doubled, *name) {
-            faults.push(*name)?;
+        if is_doubled(history, are_doubled, name) {
+            faults.push(name)?;
         }
     }
     Ok(faults)

@@ -1,5 +1,6 @@
 use crate::analysis::{Analysis, PutIndex};
 use crate::key_index::KeyIndex;
+use crate::names::Names;
 use crate::parallel::summaries_and_keys;
 use crate::put_places::put_places;
 use crate::puts::Puts;
@@ -17,7 +18,6 @@ use std::thread::Threads;
 #[derive(Drop)]
 pub struct Tables<'a> {
     history: &'a History,
-    names: Vec<OpName>,
     table: Vec<VersionedPut>,
     summaries: SessionSummaries,
     keys: KeyIndex,
@@ -25,23 +25,23 @@ pub struct Tables<'a> {
 
 impl<'a> Model for Tables<'a> {
     ghost use Rattle.cops_audit.specs.KeyIndexes.{IsKeyIndex};
+    ghost use Rattle.cops_audit.specs.Names.{names_of};
     ghost use Rattle.cops_audit.specs.Summarized.{AreTables, Summarized};
 
     ghost Value = { Summarized };
 
-    ghost view = { λ t. record { sessions = t.history.now.sessions; names = t.names.items; summaries = t.summaries } };
+    ghost view = { λ t. record { sessions = t.history.now.sessions; names = names_of t.history.now.sessions; summaries = t.summaries } };
 
-    ghost invariant = { λ t. AreTables t.table.items (record { sessions = t.history.now.sessions; names = t.names.items; summaries = t.summaries })
+    ghost invariant = { λ t. AreTables t.table.items (record { sessions = t.history.now.sessions; names = names_of t.history.now.sessions; summaries = t.summaries })
         × IsKeyIndex t.history.now t.table.items t.keys };
 }
 
 impl<'a> Tables<'a> {
     ghost use Rattle.std.specs.Prelude.{◌≡◌, ◌≤◌, ◌+◌, IfOk, length, slice_range, AllPairs};
-    ghost use Rattle.cops_types.specs.Faults.{IsBefore, IsStale};
+    ghost use Rattle.cops_types.specs.Faults.{IsBefore};
     ghost use Rattle.cops_types.specs.Verdicts.{AllAbove, AllHaveSources};
-    ghost use Rattle.cops_audit.specs.Names.{ListsAmong};
     ghost use Rattle.cops_audit.specs.Tables.{Rises};
-    ghost use Rattle.cops_audit.specs.Verdicts.{IsVerdict};
+    ghost use Rattle.cops_audit.specs.Verdicts.{IsVerdict, ListsStale};
 
     /// The tables of puts. The only error is `AllocError`, where memory runs out.
     pub fn new(alloc: Global, puts: Puts<'a>) -> Result<Self, AllocError>
@@ -60,7 +60,6 @@ impl<'a> Tables<'a> {
         let keys = KeyIndex::new(alloc, index.history, index.table, index.places)?;
         Ok(Tables {
             history: puts.history,
-            names: puts.names,
             table: puts.table,
             summaries,
             keys,
@@ -88,7 +87,6 @@ impl<'a> Tables<'a> {
         let (summaries, keys) = summaries_and_keys(rt, alloc, &index, threads)?;
         Ok(Tables {
             history: puts.history,
-            names: puts.names,
             table: puts.table,
             summaries,
             keys,
@@ -100,7 +98,7 @@ impl<'a> Tables<'a> {
         ensures count { result ≡ length self.now.names }
         ensures in_order { AllPairs IsBefore self.now.names }
     {
-        self.names.len()
+        self.history.len()
     }
 
     /// The stale gets among the `len` names from `start` on, each with the newest put on its key in its past, where the
@@ -109,7 +107,7 @@ impl<'a> Tables<'a> {
         requires inside { start + len ≤ length self.now.names }
         requires sources { AllHaveSources self.now.sessions }
         requires above { AllAbove self.now.sessions }
-        ensures { IfOk result (λ v. ListsAmong (λ f. f.op) (λ f. IsStale self.now.sessions f.op f.newer) (slice_range self.now.names start (start + len)) v.items) }
+        ensures { IfOk result (λ v. ListsStale self.now.sessions (slice_range self.now.names start (start + len)) v.items) }
     {
         let summaries = self.summaries.look();
         let analysis = Analysis {
@@ -120,7 +118,7 @@ impl<'a> Tables<'a> {
             by_key: self.keys.by_key.as_slice(),
             firsts: self.keys.firsts.as_slice(),
         };
-        stale_among(alloc, &analysis, &self.names[start..start + len])
+        stale_among(alloc, &analysis, Names::range(self.history, start, len))
     }
 
     /// The verdict where the classes before the stale gets are empty: the stale gets among all names, or the puts in
@@ -128,7 +126,7 @@ impl<'a> Tables<'a> {
     pub fn verdict(&self, alloc: Global, stale: Vec<Stale>) -> Result<Verdict, Memory>
         requires sources { AllHaveSources self.now.sessions }
         requires above { AllAbove self.now.sessions }
-        requires stale { ListsAmong (λ f. f.op) (λ f. IsStale self.now.sessions f.op f.newer) self.now.names stale.items }
+        requires stale { ListsStale self.now.sessions self.now.names stale.items }
         ensures { IfOk result (IsVerdict self.now.sessions) }
     {
         let table = self.table.as_slice();

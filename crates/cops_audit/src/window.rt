@@ -1,15 +1,16 @@
-ghost use Rattle.std.specs.Prelude.{◌≡◌, ◌<◌, ◌≤◌, ◌+◌, ℕ, List, [], IfSome, IfNone, IsOk, OnOk, AllPairs, length, vec_len, vec_capacity};
+ghost use Rattle.std.specs.Prelude.{◌≡◌, ◌≤◌, ℕ, List, IfSome, IfNone, IsOk, OnOk, AllPairs, length, vec_len, vec_capacity};
 ghost use Rattle.cops_types.specs.declared.op.OpName.{OpName};
-ghost use Rattle.cops_types.specs.Counts.{count_of};
 ghost use Rattle.cops_types.specs.Histories.{IsMissed};
 ghost use Rattle.cops_types.specs.Faults.{IsBefore};
 ghost use Rattle.cops_audit.specs.Analyses.{IsAnalysis};
+ghost use Rattle.cops_audit.specs.Names.{names_left};
 ghost use Rattle.cops_audit.specs.SoFar.{IsWaiting};
 ghost use Rattle.cops_audit.specs.Summaries.{IsSeen};
-ghost use Rattle.cops_audit.specs.Windows.{AreAllSuspects, AreSuspects, AreSuspectsBefore, IsSuspect, NoneNewer, NoneWithin};
+ghost use Rattle.cops_audit.specs.Windows.{AreSuspects, IsSuspect, NoneNewer, NoneWithin};
 
 use crate::analysis::Analysis;
 use crate::keys::first_on;
+use crate::names::Names;
 use crate::summaries::OpPlace;
 use cops_types::OpName;
 use std::alloc::AllocError;
@@ -100,65 +101,25 @@ fn find_suspect(analysis: &Analysis, op: OpName) -> Option<Suspect>
     }
 }
 
-/// Adds the suspects among these names. It allocates nothing where the capacity is at least the number of names.
-pub fn push_suspects(
+/// Fills `suspects` with the suspects among these names. It allocates nothing where the capacity is at least their
+/// number.
+pub fn set_suspects(
     suspects: &mut Vec<Suspect>,
     analysis: &Analysis,
-    names: &[OpName],
+    names: Names<'_>,
 ) -> Result<(), AllocError>
-    requires empty { suspects.old.items ≡ [] }
     requires analysis { IsAnalysis analysis.now }
-    requires in_order { AllPairs IsBefore names.now }
-    ensures suspects { OnOk result (AreSuspects analysis.now.history.now.sessions analysis.now.table.now names.now suspects.new.items) }
-    ensures count { OnOk result (vec_len suspects.new ≤ length names.now) }
+    requires in_order { AllPairs IsBefore (names_left names) }
+    ensures suspects { OnOk result (AreSuspects analysis.now.history.now.sessions analysis.now.table.now (names_left names.entry) suspects.new.items) }
+    ensures count { OnOk result (vec_len suspects.new ≤ length (names_left names.entry)) }
     ensures capacity { vec_capacity suspects.old ≤ vec_capacity suspects.new }
-    ensures succeeds { length names.now ≤ vec_capacity suspects.old → IsOk result }
+    ensures succeeds { length (names_left names.entry) ≤ vec_capacity suspects.old → IsOk result }
 {
+    suspects.clear();
     for name in names {
-        if let Some(found) = find_suspect(analysis, *name) {
-            suspects.push(found)?;
-        }
-    }
-    Ok(())
-}
-
-/// Adds the suspects of a session, after those of the sessions before it. It allocates nothing where the capacity is at
-/// least the number of operations.
-fn push_session_suspects(
-    suspects: &mut Vec<Suspect>,
-    analysis: &Analysis,
-    client: u16,
-) -> Result<(), AllocError>
-    requires client { client < length analysis.now.history.now.sessions }
-    requires analysis { IsAnalysis analysis.now }
-    requires before { AreSuspectsBefore analysis.now.history.now.sessions analysis.now.table.now client 0 suspects.old.items }
-    ensures suspects { OnOk result (AreSuspectsBefore analysis.now.history.now.sessions analysis.now.table.now (client + 1) 0 suspects.new.items) }
-    ensures capacity { vec_capacity suspects.old ≤ vec_capacity suspects.new }
-    ensures succeeds { count_of analysis.now.history.now.sessions ≤ vec_capacity suspects.old → IsOk result }
-{
-    for index in 0..analysis.history.session_len(client) {
-        let name = OpName {
-            client,
-            index: index as u32,
-        };
         if let Some(found) = find_suspect(analysis, name) {
             suspects.push(found)?;
         }
-    }
-    Ok(())
-}
-
-/// Fills `suspects` with all suspects. It allocates nothing where the capacity is at least the number of operations.
-pub fn set_suspects(suspects: &mut Vec<Suspect>, analysis: &Analysis) -> Result<(), AllocError>
-    requires { IsAnalysis analysis.now }
-    ensures suspects { OnOk result (AreAllSuspects analysis.now.history.now.sessions analysis.now.table.now suspects.new.items) }
-    ensures count { OnOk result (vec_len suspects.new ≤ count_of analysis.now.history.now.sessions) }
-    ensures capacity { vec_capacity suspects.old ≤ vec_capacity suspects.new }
-    ensures succeeds { count_of analysis.now.history.now.sessions ≤ vec_capacity suspects.old → IsOk result }
-{
-    suspects.clear();
-    for client in 0..analysis.history.clients() {
-        push_session_suspects(suspects, analysis, client as u16)?;
     }
     Ok(())
 }

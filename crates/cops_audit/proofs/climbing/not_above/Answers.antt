@@ -1,14 +1,15 @@
-use Rattle.std.proofs.Common.{◌≡◌, ◌∙◌, List, [], ℕ, Option, ap, arith, refl, sym, subst, slice_index_or}
+use Rattle.std.proofs.Common.{◌≡◌, ◌∙◌, List, [], ℕ, Option, ap, arith, refl, sym, subst}
 use Rattle.std.specs.Prelude.{IfSome, IfNone}
 use Rattle.cops_types.specs.Histories.{Sessions}
 use Rattle.cops_types.specs.declared.op.OpName.{OpName}
 use Rattle.cops_types.specs.Faults.{IsNotAbove, IsNotBelow}
 use Rattle.cops_audit.specs.Climbs.{AreMaxima}
+use Rattle.cops_audit.specs.Names.{names_left}
 use Rattle.cops_audit.specs.declared.verdict.NotAbove.{NotAbove}
 use Rattle.cops_audit.proofs.Acyclic.{same_name}
-use Rattle.cops_audit.proofs.Collect.{skip_next, push_next, among_here}
+use Rattle.cops_audit.proofs.Collect.{collected_all, collected_none, collect_push, collect_skip}
 use Rattle.cops_audit.proofs.climbing.not_above.Goals as goal
-use Rattle.cops_audit.proofs.climbing.not_above.Goals.{then-name-client, else-name-client, in-Some+in_ok-push, in_default}
+use Rattle.cops_audit.proofs.climbing.not_above.Goals.{then-name-client, else-name-client}
 
 same_fault : (a b : NotAbove) → a.op ≡ b.op → a.earlier ≡ b.earlier → a ≡ b
 same_fault a b e f = ap (λ (p : OpName × OpName). let n : NotAbove = record { op = p.0; earlier = p.1 } in n) (let q : (a.op, a.earlier) ≡ (b.op, b.earlier) = cc in q)
@@ -25,33 +26,40 @@ one_fault h a b f g e = same_fault a b e (one_first h b.op a.earlier b.earlier (
 none_yet : (h : Sessions) (client : ℕ) (maxima : List ℕ) → maxima ≡ [] → AreMaxima h client maxima
 none_yet h client maxima e = subst (AreMaxima h client) (sym e) (λ i maximum at. absurd cc)
 
+pub loop-name-init : goal.loop-name-init
+loop-name-init c = record {
+  faults = collected_none (λ (f : NotAbove). f.op) (λ f. IsNotAbove c.args.history.now.sessions f.op f.earlier) (ap names_left c.into_iter-name-iterator.ensures.into_iter_gives) c.new-faults.ensures.items;
+  maxima = none_yet c.args.history.now.sessions 0 _ c.new-maxima.ensures.items;
+}
+
 pub earlier_not_below-requires : goal.earlier_not_below-requires
 earlier_not_below-requires c =
     let h = c.args.history.now.sessions in
     elim c.if-name-client.branch [
       | then-name-client w ↦ rw w.maxima-is (none_yet h _ _ w.clear.ensures.items)
       | else-name-client w ↦ rw w.maxima-is
-          (let e : c.loop-name.client ≡ (slice_index_or c.args.names.now c.loop-name.name-index (record { client = 0; index = 0 })).client = omega (arith, w.if-name-client.false) in
+          (let e : c.loop-name.client ≡ c.in-Some.name.client = omega (arith, w.if-name-client.false) in
           subst (λ (k : ℕ). AreMaxima h k c.loop-name.maxima.items) e c.loop-name.invariant.maxima)
     ]
 
 pub loop-name-preserved : goal.loop-name-preserved
 loop-name-preserved c =
-    let i = c.loop-name.name-index in
     let h = c.args.history.now.sessions in
-    let name : OpName = slice_index_or c.args.names.now i (record { client = 0; index = 0 }) in
     record {
-      lists = elim c.match-found.branch [
-        | in-Some+in_ok-push w ↦ rw (w.faults-is, w.in_ok-push.ensures.items)
-            (push_next (λ f. f.op) (λ f. IsNotAbove h f.op f.earlier) c.args.names.now c.requires i c.loop-name-test.true c.loop-name.faults.items _ _ refl c.loop-name.invariant.lists
-            (subst (λ (o : Option OpName). IfSome o (λ e. IsNotAbove h name e)) w.in-Some.is c.in_ok-found.ensures.first)
-            (λ x f e. one_fault h x _ f (subst (λ (o : Option OpName). IfSome o (λ e. IsNotAbove h name e)) w.in-Some.is c.in_ok-found.ensures.first) e))
-        | in_default w ↦ rw w.faults-is
-            (skip_next (λ f. f.op) (λ f. IsNotAbove h f.op f.earlier) c.args.names.now c.requires i c.loop-name-test.true c.loop-name.faults.items _ c.loop-name.invariant.lists
-            (λ x f e. subst (λ (o : Option OpName). IfNone o ((e : OpName) → ¬ IsNotBelow h e name)) w.in_default.is c.in_ok-found.ensures.none x.earlier (subst (λ m. IsNotBelow h x.earlier m) e f.is_not_below)))
-      ];
+      faults = collect_skip (λ (f : NotAbove). f.op) (λ f. IsNotAbove h f.op f.earlier) c.loop-name.invariant.faults c.in-Some.ensures.steps
+          (λ x f e. subst (λ (o : Option OpName). IfNone o ((e : OpName) → ¬ IsNotBelow h e c.in-Some.name)) c.in_default.is c.in_ok-found.ensures.none x.earlier (subst (λ m. IsNotBelow h x.earlier m) e f.is_not_below));
+      maxima = c.in_ok-found.ensures.maxima;
+    }
+
+pub loop-name-preserved-in-Continue-branch-2 : goal.loop-name-preserved-in-Continue-branch-2
+loop-name-preserved-in-Continue-branch-2 c =
+    let h = c.args.history.now.sessions in
+    let first = subst (λ (o : Option OpName). IfSome o (λ e. IsNotAbove h c.in-Some.name e)) c.in-Some-found.is c.in_ok-found.ensures.first in
+    record {
+      faults = collect_push (λ (f : NotAbove). f.op) (λ f. IsNotAbove h f.op f.earlier) (record { op = c.in-Some.name; earlier = c.in-Some-found.earlier }) c.requires c.loop-name.invariant.faults
+          c.in-Some.ensures.steps c.in_ok-push.ensures.items refl first (λ x f e. one_fault h x _ f first e);
       maxima = c.in_ok-found.ensures.maxima;
     }
 
 pub returns : goal.returns
-returns c = among_here (λ f. f.op) (λ f. IsNotAbove c.args.history.now.sessions f.op f.earlier) c.args.names.now c.loop-name.name-index _ (omega arith) c.loop-name.invariant.lists
+returns c = collected_all (λ (f : NotAbove). f.op) (λ f. IsNotAbove c.args.history.now.sessions f.op f.earlier) c.loop-name.invariant.faults c.in-None.ensures.steps.0

@@ -1,21 +1,21 @@
-use Rattle.std.proofs.Common.{◌≡◌, arith, refl, subst, true}
+use Rattle.std.proofs.Common.{◌≡◌, ap, refl, subst, true}
 use Rattle.cops_types.specs.Faults.{HasNoSource}
-use Rattle.cops_audit.proofs.Collect.{skip_next, push_next, among_here}
+use Rattle.cops_audit.specs.Names.{names_left}
+use Rattle.cops_audit.proofs.Collect.{collected_all, collected_none, collect_push, collect_skip}
 use Rattle.cops_audit.proofs.sources.without_source.Goals as goal
-use Rattle.cops_audit.proofs.sources.without_source.Goals.{then-is_sourceless+in_ok-push, else-is_sourceless}
+
+pub loop-name-init : goal.loop-name-init
+loop-name-init c = collected_none (λ n. n) (HasNoSource c.args.history.now.sessions) (ap names_left c.into_iter-name-iterator.ensures.into_iter_gives) c.new-faults.ensures.items
 
 pub loop-name-preserved : goal.loop-name-preserved
 loop-name-preserved c =
-    let i = c.loop-name.name-index in
-    let n = c.args.history.now.sessions in
-    elim c.if-is_sourceless.branch [
-      | then-is_sourceless+in_ok-push w ↦ rw (w.faults-is, w.in_ok-push.ensures.items)
-          (push_next (λ n. n) (HasNoSource n) c.args.names.now c.requires.in_order i c.loop-name-test.true c.loop-name.faults.items _ _ refl c.loop-name.invariant
-          (c.is_sourceless.ensures.0 w.if-is_sourceless.true) (λ x f e. e))
-      | else-is_sourceless w ↦ rw w.faults-is
-          (skip_next (λ n. n) (HasNoSource n) c.args.names.now c.requires.in_order i c.loop-name-test.true c.loop-name.faults.items _ c.loop-name.invariant
-          (λ x f e. let is : c.is_sourceless.result ≡ true = c.is_sourceless.ensures.1 (subst (HasNoSource n) e f) in cc))
-    ]
+    let h = c.args.history.now.sessions in
+    collect_skip (λ n. n) (HasNoSource h) c.loop-name.invariant c.in-Some.ensures.steps (λ x f e. let is : c.is_sourceless.result ≡ true = c.is_sourceless.ensures.1 (subst (HasNoSource h) e f) in cc)
+
+pub loop-name-preserved-in-Continue-1 : goal.loop-name-preserved-in-Continue-1
+loop-name-preserved-in-Continue-1 c =
+    collect_push (λ n. n) (HasNoSource c.args.history.now.sessions) c.in-Some.name c.requires.in_order c.loop-name.invariant c.in-Some.ensures.steps c.in_ok-push.ensures.items refl
+    (c.is_sourceless.ensures.0 c.if-is_sourceless.true) (λ x f e. e)
 
 pub returns : goal.returns
-returns c = among_here (λ n. n) (HasNoSource c.args.history.now.sessions) c.args.names.now c.loop-name.name-index _ (omega arith) c.loop-name.invariant
+returns c = collected_all (λ n. n) (HasNoSource c.args.history.now.sessions) c.loop-name.invariant c.in-None.ensures.steps.0

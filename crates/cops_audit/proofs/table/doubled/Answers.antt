@@ -1,25 +1,25 @@
-use Rattle.std.proofs.Common.{◌≡◌, arith, refl, subst, sym, true}
+use Rattle.std.proofs.Common.{◌≡◌, ap, refl, subst, sym, true}
 use Rattle.cops_types.specs.VersionOrder.{IsDoubled}
+use Rattle.cops_audit.specs.Names.{names_left}
 use Rattle.cops_audit.specs.Tables.{ReportDoubled}
-use Rattle.cops_audit.proofs.Collect.{skip_next, push_next, among_here}
+use Rattle.cops_audit.proofs.Collect.{collected_all, collected_none, collect_push, collect_skip}
 use Rattle.cops_audit.proofs.table.doubled.Goals as goal
-use Rattle.cops_audit.proofs.table.doubled.Goals.{then-is_doubled+in_ok-push, else-is_doubled}
+
+pub loop-name-init : goal.loop-name-init
+loop-name-init c = collected_none (λ n. n) (IsDoubled c.args.history.now.sessions) (ap names_left c.into_iter-name-iterator.ensures.into_iter_gives) c.new-faults.ensures.items
 
 pub loop-name-preserved : goal.loop-name-preserved
 loop-name-preserved c =
-    let i = c.loop-name.name-index in
     let h = c.args.history.now.sessions in
-    elim c.if-is_doubled.branch [
-      | then-is_doubled+in_ok-push w ↦ rw (w.faults-is, w.in_ok-push.ensures.items)
-          (push_next (λ n. n) (IsDoubled h) c.args.names.now c.requires.in_order i c.loop-name-test.true c.loop-name.faults.items _ _ refl c.loop-name.invariant
-          (c.is_doubled.ensures.0 w.if-is_doubled.true) (λ x f e. e))
-      | else-is_doubled w ↦ rw w.faults-is
-          (skip_next (λ n. n) (IsDoubled h) c.args.names.now c.requires.in_order i c.loop-name-test.true c.loop-name.faults.items _ c.loop-name.invariant
-          (λ x f e. let is : c.is_doubled.result ≡ true = c.is_doubled.ensures.1 (subst (IsDoubled h) e f) in cc))
-    ]
+    collect_skip (λ n. n) (IsDoubled h) c.loop-name.invariant c.in-Some.ensures.steps (λ x f e. let is : c.is_doubled.result ≡ true = c.is_doubled.ensures.1 (subst (IsDoubled h) e f) in cc)
+
+pub loop-name-preserved-in-Continue-branch-2 : goal.loop-name-preserved-in-Continue-branch-2
+loop-name-preserved-in-Continue-branch-2 c =
+    collect_push (λ n. n) (IsDoubled c.args.history.now.sessions) c.in-Some.name c.requires.in_order c.loop-name.invariant c.in-Some.ensures.steps c.in_ok-push.ensures.items refl
+    (c.is_doubled.ensures.0 c.if-is_doubled.true) (λ x f e. e)
 
 pub returns : goal.returns
-returns c = among_here (λ n. n) (IsDoubled c.args.history.now.sessions) c.args.names.now c.loop-name.name-index _ (omega arith) c.loop-name.invariant
+returns c = collected_all (λ n. n) (IsDoubled c.args.history.now.sessions) c.loop-name.invariant c.in-None.ensures.steps.0
 
 pub is_doubled-requires : goal.is_doubled-requires
 is_doubled-requires c = subst (ReportDoubled c.args.history.now) (sym c.as_slice-are_doubled.ensures.value) c.in_ok-doubled.ensures

@@ -1,22 +1,23 @@
 use Rattle.std.proofs.Common.{◌+◌, AllPairs, IfOk, subst, sym, slice_range}
 use Rattle.cops_types.specs.Faults.{IsBefore, IsNotAbove}
-use Rattle.cops_audit.specs.Names.{ListsAmong}
-use Rattle.cops_audit.specs.Sorted.{Sorted}
+use Rattle.cops_audit.specs.Verdicts.{ListsNotAbove}
 use Rattle.cops_audit.specs.declared.verdict.NotAbove.{NotAbove}
 use Rattle.cops_audit.proofs.Collect.{among_faultless}
+use Rattle.cops_audit.specs.Names.{names_of}
+use Rattle.cops_audit.specs.Sorted.{Sorted}
 use Rattle.cops_audit.proofs.Ranges.{range_in_order}
 use Rattle.cops_audit.proofs.puts.Puts.not_above.Goals as goal
 
 pub not_above-requires : goal.not_above-requires
-not_above-requires c = range_in_order c.deref.result.now c.args.start (c.args.start + c.args.len) (subst (AllPairs IsBefore) (sym c.deref.ensures.value) c.self.invariant.0.names.in_order)
+not_above-requires c = subst (AllPairs IsBefore) (sym c.range-names.ensures) (range_in_order (names_of c.self.inside.history.now.sessions) c.args.start (c.args.start + c.args.len) c.self.invariant.0.names.in_order)
 
 pub returns : goal.returns
 returns c =
-    subst (λ (s : Sorted). IfOk c.not_above.result (λ v. ListsAmong {A = NotAbove} (λ f. f.op) (λ f. IsNotAbove s.sessions f.op f.earlier) (slice_range s.names c.args.start (c.args.start + c.args.len)) v.items)) c.self.view_is
-    (subst (λ ns. IfOk c.not_above.result (λ v. ListsAmong {A = NotAbove} (λ f. f.op) (λ f. IsNotAbove c.self.inside.history.now.sessions f.op f.earlier) (slice_range ns c.args.start (c.args.start + c.args.len)) v.items)) c.deref.ensures.value c.not_above.ensures)
+    subst (λ (s : Sorted). IfOk c.not_above.result (λ v. ListsNotAbove s.sessions (slice_range s.names c.args.start (c.args.start + c.args.len)) v.items)) c.self.view_is
+    (subst (λ ns. IfOk c.not_above.result (λ v. ListsNotAbove c.self.inside.history.now.sessions ns v.items)) c.range-names.ensures c.not_above.ensures)
 
 pub returns-then-are_puts_above : goal.returns-then-are_puts_above
 returns-then-are_puts_above c =
     let above = c.are_puts_above.ensures.above c.if-are_puts_above.true in
-    subst (λ (s : Sorted). ListsAmong {A = NotAbove} (λ f. f.op) (λ f. IsNotAbove s.sessions f.op f.earlier) (slice_range s.names c.args.start (c.args.start + c.args.len)) c.new.result.items) c.self.view_is
+    subst (λ (s : Sorted). ListsNotAbove s.sessions (slice_range s.names c.args.start (c.args.start + c.args.len)) c.new.result.items) c.self.view_is
     (among_faultless {A = NotAbove} (λ f. f.op) (λ f. IsNotAbove c.self.inside.history.now.sessions f.op f.earlier) _ (λ f. above f.op f.earlier) _ c.new.ensures.items)

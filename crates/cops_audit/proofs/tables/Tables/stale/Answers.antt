@@ -1,6 +1,7 @@
 use Rattle.std.proofs.Common.{◌+◌, IfOk, subst, sym, AllPairs, slice_range}
 use Rattle.cops_types.specs.Faults.{IsBefore}
 use Rattle.cops_types.specs.Verdicts.{AllAbove, AllHaveSources}
+use Rattle.cops_audit.specs.Names.{names_of}
 use Rattle.cops_audit.specs.Summaries.{IsSummarized}
 use Rattle.cops_audit.specs.Summarized.{Summarized}
 use Rattle.cops_audit.specs.Verdicts.{ListsStale}
@@ -20,9 +21,9 @@ stale_among-requires-clause-analysis c =
     (subst (λ (t : Summarized). AllAbove t.sessions) (sym c.self.view_is) c.requires.above) are.limits
 
 pub stale_among-requires-clause-in_order : goal.stale_among-requires-clause-in_order
-stale_among-requires-clause-in_order c = range_in_order c.deref.result.now c.args.start (c.args.start + c.args.len) (subst (AllPairs IsBefore) (sym c.deref.ensures.value) c.self.invariant.0.names.in_order)
+stale_among-requires-clause-in_order c = subst (AllPairs IsBefore) (sym c.range.ensures) (range_in_order (names_of c.self.inside.history.now.sessions) c.args.start (c.args.start + c.args.len) c.self.invariant.0.names.in_order)
 
 pub returns : goal.returns
 returns c =
     subst (λ (t : Summarized). IfOk c.stale_among.result (λ v. ListsStale t.sessions (slice_range t.names c.args.start (c.args.start + c.args.len)) v.items)) c.self.view_is
-    (subst (λ ns. IfOk c.stale_among.result (λ v. ListsStale c.self.inside.history.now.sessions (slice_range ns c.args.start (c.args.start + c.args.len)) v.items)) c.deref.ensures.value c.stale_among.ensures)
+    (subst (λ ns. IfOk c.stale_among.result (λ v. ListsStale c.self.inside.history.now.sessions ns v.items)) c.range.ensures c.stale_among.ensures)
