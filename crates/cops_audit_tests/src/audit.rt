@@ -4,7 +4,6 @@ use cops_testing::pair;
 use cops_types::{History, Op, OpName, Version};
 use std::alloc::Global;
 use std::test::Fail;
-use std::thread::Threads;
 
 /// The puts are listed in order of versions, and not of names.
 #[test]
@@ -77,24 +76,18 @@ fn a_deletion_has_a_number(rt: HostRuntime) -> Result<(), Fail> {
     Ok(())
 }
 
-/// How many operations the workers share, and the puts among them that have the version of another put; built with at
-/// most `threads` threads.
-fn shared<R: Threads + Sync>(
-    rt: &R,
-    alloc: Global,
-    history: &History,
-    threads: u8,
-) -> Result<(usize, Vec<OpName>), Fail> {
-    let puts = Puts::parallel(rt, alloc, history, threads)?;
+/// How many operations a history has, and the puts among them that have the version of another put.
+fn counted(alloc: Global, history: &History) -> Result<(usize, Vec<OpName>), Fail> {
+    let puts = Puts::new(alloc, history)?;
     let count = puts.count();
     let doubled = puts.doubled(alloc, 0, count);
     drop(puts);
     Ok((count, doubled?))
 }
 
-/// One thread and several build the same.
+/// Puts of different clients have the same version, and a put, a deletion and a get that found nothing do not.
 #[test]
-fn puts_parallel_to_names(rt: HostRuntime) -> Result<(), Fail> {
+fn doubled_among_all(rt: HostRuntime) -> Result<(), Fail> {
     let entries = [
         (0, TestOp::Put(b'x', 1, 2, 0)),
         (1, TestOp::Put(b'x', 2, 1, 64)),
@@ -104,11 +97,9 @@ fn puts_parallel_to_names(rt: HostRuntime) -> Result<(), Fail> {
     ];
     let wanted = [name(0, 0), name(1, 0), name(2, 0), name(2, 1)];
     let history = history(rt.alloc(), 3, &entries)?;
-    for threads in [1, 2, 4] {
-        let (count, doubled) = shared(&rt, rt.alloc(), &history, threads)?;
-        assert!(rt; count == 5);
-        assert!(rt; doubled.as_slice() == wanted.as_slice());
-    }
+    let (count, doubled) = counted(rt.alloc(), &history)?;
+    assert!(rt; count == 5);
+    assert!(rt; doubled.as_slice() == wanted.as_slice());
     Ok(())
 }
 

@@ -58,7 +58,7 @@ fn judge_in_pieces<R: Threads + Wait + Sync, G: Gate>(
     ensures bad { IfErr result (λ e. e ≢ BadWorkers) }
     ensures held { IsErrOf result Held → (i : ℕ) × (i < workers) × MayHoldPiece (G.may_hold gate.now) i }
 {
-    let Ok(puts) = Puts::parallel(rt, alloc, history, workers) else {
+    let Ok(puts) = Puts::new(alloc, history) else {
         return Err(BatchFault::Memory);
     };
     let Ok(mut pieces) = cut(alloc, puts.count(), workers) else {
