@@ -35,6 +35,10 @@ pub record AreKeys (r : Recorded) (table : List VersionedPut) (numbers : List �
 abbrev pub KnowsFirsts : Recorded → List VersionedPut → List (Option ℕ) → Type 0
 KnowsFirsts r table firsts = (number : ℕ) (key : List ℕ) → slice_get r.keys number ≡ Some key → IsFirstFrom r.sessions table 0 key (slice_index_or firsts number None)
 
+-- the first put on the key of an operation, if there is one, in any table of which the first puts are these
+abbrev pub IsFirstOnItsKey : Recorded → List (Option ℕ) → OpName → Option ℕ → Type 0
+IsFirstOnItsKey r firsts name found = (table : List VersionedPut) (key : List ℕ) → KnowsFirsts r table firsts → IsOnKey r.sessions name key → IsFirstFrom r.sessions table 0 key found
+
 -- no later put is on the key of the put at this place, or this one is the next
 abbrev pub IsNext : Sessions → List VersionedPut → ℕ → Option ℕ → Type 0
 IsNext h table place None = (key : List ℕ) → OnKey h table place key → (later : ℕ) → place < later → ¬ OnKey h table later key

@@ -23,9 +23,12 @@ names_of h = names_from 0 h
 abbrev pub names_after : Sessions → ℕ → ℕ → List OpName
 names_after h client index = session_names client index (drop index (slice_index_or h client [])) ++ names_from (client + 1) (drop (client + 1) h)
 
--- the names that an iterator has still to give
+-- the names from where an iterator is on, and those that it has still to give
+abbrev pub names_on : Names → List OpName
+names_on names = names_after names.history.now.sessions names.client names.index
+
 abbrev pub names_left : Names → List OpName
-names_left names = take names.left (names_after names.history.now.sessions names.client names.index)
+names_left names = take names.left (names_on names)
 
 -- exactly the faults whose names are among these, in order of names
 pub record ListsAmong {A : Type 0} (name_of : A → OpName) (IsFault : A → Type 0) (names : List OpName) (faults : List A) : Type 0 where

@@ -1,5 +1,5 @@
 -- The puts by their versions.
-use Rattle.std.specs.Prelude.{◌≡◌, ◌≢◌, ◌<◌, ◌≤◌, ◌+◌, ◌↔◌, ℕ, List, Bool, Some, true, false, length, slice_get, slice_index_or, Contains, AllPairs}
+use Rattle.std.specs.Prelude.{◌≡◌, ◌≢◌, ◌<◌, ◌≤◌, ◌+◌, ◌↔◌, ◌⊎◌, ℕ, List, Bool, Some, true, false, length, slice_get, slice_index_or, Contains, AllPairs}
 use Rattle.cops_types.specs.declared.limits.TheConstants.{MAX_OPS}
 use Rattle.cops_types.specs.Histories.{Sessions, PutsVersion}
 use Rattle.cops_types.specs.VersionOrder.{IsDoubled}
@@ -18,6 +18,11 @@ Rises puts = AllPairs (λ p q. p.version < q.version) puts
 -- a put has no later version than the one before it
 abbrev pub Repeats : List VersionedPut → Type 0
 Repeats puts = (k : ℕ) × (k + 1 < length puts) × ((d : VersionedPut) → (slice_index_or puts (k + 1) d).version ≤ (slice_index_or puts k d).version)
+
+-- the put before or after this place has the same version
+abbrev pub HasEqualNeighbour : List VersionedPut → ℕ → Type 0
+HasEqualNeighbour puts place =
+    (k : ℕ) × (k < length puts) × ((k + 1 ≡ place) ⊎ (place + 1 ≡ k)) × ((d : VersionedPut) → (slice_index_or puts k d).version ≡ (slice_index_or puts place d).version)
 
 -- all puts with their versions, each once, in order of versions
 pub record IsPutTable (h : Sessions) (puts : List VersionedPut) : Type 0 where

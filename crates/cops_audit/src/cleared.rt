@@ -2,14 +2,11 @@ ghost use Rattle.std.specs.Prelude.{◌≡◌, ◌<◌, ◌≤◌, ◌+◌, ◌�
 ghost use Rattle.cops_types.specs.declared.op.OpName.{OpName};
 ghost use Rattle.cops_types.specs.Faults.{IsBefore};
 ghost use Rattle.cops_audit.specs.Analyses.{IsAnalysis};
-ghost use Rattle.cops_audit.specs.Clocks.{ArePassed, IsClearing, IsLeft, NoneCounted};
+ghost use Rattle.cops_audit.specs.Clocks.{ArePassed, IsClearing, IsLeft, IsStart, NoneCounted, WhereClearing};
 ghost use Rattle.cops_audit.specs.Names.{ListsAmong};
 ghost use Rattle.cops_audit.specs.Summaries.{summary_at};
 ghost use Rattle.cops_audit.specs.Sweeps.{Counted};
-ghost use Rattle.cops_audit.specs.Windows.{AreSuspects};
-ghost use Rattle.cops_audit.specs.declared.summaries.Summary.{Summary as ASummary};
-ghost use Rattle.cops_types.specs.declared.versioned_put.VersionedPut.{VersionedPut as APut};
-ghost use Rattle.cops_audit.specs.declared.window.Suspect.{Suspect as ASuspect};
+ghost use Rattle.cops_audit.specs.Windows.{AreSuspects, KeepsSuspects};
 
 use crate::analysis::Analysis;
 use crate::clocks::{CHECKPOINT, Clocks};
@@ -108,7 +105,7 @@ impl Clearing {
         puts: usize,
         suspects: &[Suspect],
     ) -> Result<Self, AllocError>
-        ensures { (table : List APut) (summaries : List (List ASummary)) (firsts : List ℕ) → length summaries ≡ clients → IfOk result (IsClearing table summaries firsts suspects.now) }
+        ensures { IfOk result (IsStart clients suspects.now) }
     {
         let next = first_suspects(alloc, clients, suspects)?;
         let cleared = none_cleared(alloc, suspects.len())?;
@@ -207,8 +204,7 @@ impl Clearing {
 
     /// Keeps a checkpoint after every `CHECKPOINT` puts, once the puts below the place `below` are passed.
     fn keep_passed(&mut self, alloc: Global, below: u32) -> Result<(), AllocError>
-        ensures clearing { (table : List APut) (summaries : List (List ASummary)) (firsts : List ℕ) (suspects : List ASuspect) → IsClearing table summaries firsts suspects self.old
-            → ArePassed table self.old.clocks.passed.items below → OnOk result (IsClearing table summaries firsts suspects self.new) }
+        ensures clearing { WhereClearing self.old (λ table IsStill. ArePassed table self.old.clocks.passed.items below → OnOk result (IsStill self.new)) }
         ensures passed { OnOk result (self.new.clocks.passed ≡ self.old.clocks.passed) }
     {
         if below as usize % CHECKPOINT != 0 {
@@ -273,8 +269,7 @@ pub fn clear(
 ) -> Result<(), AllocError>
     requires analysis { IsAnalysis analysis.now }
     requires suspects { (names : List OpName) × AreSuspects analysis.now.history.now.sessions analysis.now.table.now names suspects.old.items }
-    ensures { OnOk result ((names : List OpName) → AreSuspects analysis.now.history.now.sessions analysis.now.table.now names suspects.old.items
-        → AreSuspects analysis.now.history.now.sessions analysis.now.table.now names suspects.new.items) }
+    ensures { OnOk result (KeepsSuspects analysis.now.history.now.sessions analysis.now.table.now suspects.old.items suspects.new.items) }
 {
     let clients = analysis.history.clients();
     if clients > MOST_CLIENTS || suspects.len() < analysis.history.len() / OPS_OF_A_SUSPECT {

@@ -1,7 +1,8 @@
 ghost use Rattle.cops_types.specs.declared.limits.TheConstants.{MAX_CLIENT_OPS, MAX_OPS};
 ghost use Rattle.std.specs.Prelude.{◌≡◌, ◌<◌, ◌≤◌, ◌+◌, ℕ, List, IfOk, IfSome, IsTrue, OnOk, Some, length, map, replicate, slice_index, slice_index_or, vec_len, []};
 ghost use Rattle.cops_audit.specs.Analyses.{IsAnalysis};
-ghost use Rattle.cops_audit.specs.Clocks.{AreClocks, AreKnown, ArePassed, KnowsPut};
+ghost use Rattle.cops_audit.specs.Clocks.{AreClocks, AreClocksWith, AreClocksWithSeen, AreKnown, ArePassed, IsPutClock};
+ghost use Rattle.cops_audit.specs.Clocks.{KnowsNext, KnowsPut, next_of, WhereClocks, WhereKnown};
 ghost use Rattle.cops_types.specs.declared.op.OpName.{OpName};
 ghost use Rattle.cops_audit.specs.Summaries.{StandsAt, summary_at};
 ghost use Rattle.cops_audit.specs.Sweeps.{AreRising};
@@ -69,8 +70,8 @@ fn counts_in<'a>(known: &'a Known, place: u32) -> Option<&'a [u32]>
 /// An upper bound on the clock of the put at a place, from the recent clocks or from a checkpoint, if one of them
 /// covers it.
 fn counts_at<'a>(recent: &'a [Known], checkpoints: &'a [Known], place: u32) -> Option<&'a [u32]>
-    ensures { (table : List APut) (summaries : List (List ASummary)) → AreKnown table summaries recent.now → AreKnown table summaries checkpoints.now
-        → IfSome result (λ counts. (length counts.now ≡ length summaries) × KnowsPut table summaries counts.now place) }
+    ensures { WhereKnown recent.now (λ table summaries. AreKnown table summaries checkpoints.now
+        → IfSome result (λ counts. IsPutClock table summaries counts.now place)) }
 {
     let at = place as usize % recent.len().max(1);
     if let Some(known) = recent.get(at) {
@@ -87,8 +88,8 @@ fn counts_at<'a>(recent: &'a [Known], checkpoints: &'a [Known], place: u32) -> O
 /// Keeps the clock of the put at a place, in place of an earlier put's. It keeps none where `recent` is empty.
 fn remember(recent: &mut Vec<Known>, place: u32, counts: &[u32]) -> Result<(), AllocError>
     requires { place < MAX_OPS }
-    ensures { (table : List APut) (summaries : List (List ASummary)) → AreKnown table summaries recent.old.items → length counts.now ≡ length summaries → KnowsPut table summaries counts.now place
-        → OnOk result (AreKnown table summaries recent.new.items) }
+    ensures { WhereKnown recent.old.items (λ table summaries. IsPutClock table summaries counts.now place
+        → OnOk result (AreKnown table summaries recent.new.items)) }
 {
     let at = place as usize % recent.len().max(1);
     if at < recent.len() {
@@ -158,8 +159,7 @@ impl Clocks {
     fn learn(&mut self, client: usize, place: u32) -> bool
         requires client { client < length self.old.known.items }
         requires clocks { (table : List APut) × (summaries : List (List ASummary)) × AreClocks table summaries self.old }
-        ensures learned { (table : List APut) (summaries : List (List ASummary)) → AreClocks table summaries self.old → IsTrue result
-            → AreClocks table summaries self.new × KnowsPut table summaries (slice_index_or (map (λ v. v.items) self.new.known.items) client []) place }
+        ensures learned { WhereClocks self.old (λ table summaries. IsTrue result → AreClocksWith table summaries self.new client place) }
         ensures passed { self.new.passed ≡ self.old.passed }
     {
         match counts_at(self.recent.as_slice(), self.checkpoints.as_slice(), place) {
@@ -178,8 +178,7 @@ impl Clocks {
         requires clocks { (summaries : List (List ASummary)) × AreRising table.now summaries × AreClocks table.now summaries self.old }
         requires inside { (place : ℕ) → seen ≡ OpPlace.Got place → (put : OpName) × (version : ℕ) × StandsAt table.now place put version }
         ensures learned { (summaries : List (List ASummary)) → AreClocks table.now summaries self.old → IsTrue result
-            → AreClocks table.now summaries self.new × ((place : ℕ) → seen ≡ OpPlace.Got place
-            → KnowsPut table.now summaries (slice_index_or (map (λ v. v.items) self.new.known.items) client []) place × KnowsPut table.now summaries self.new.passed.items place) }
+            → AreClocksWithSeen table.now summaries self.new client seen }
         ensures passed { self.new.passed ≡ self.old.passed }
     {
         let OpPlace::Got(place) = seen else {
@@ -197,10 +196,7 @@ impl Clocks {
         requires client { client < length self.old.known.items }
         requires clocks { (table : List APut) × (summaries : List (List ASummary)) × AreClocks table summaries self.old }
         requires few { slice_index self.old.passed.items client < MAX_CLIENT_OPS }
-        ensures clocks { (table : List APut) (summaries : List (List ASummary)) → AreClocks table summaries self.old
-            → ((place mark : ℕ) → summary_at summaries (record { client = client; index = slice_index self.old.passed.items client }) ≡ Some (record { seen = OpPlace.Got place; mark = mark })
-            → KnowsPut table summaries (slice_index_or (map (λ v. v.items) self.old.known.items) client []) place × KnowsPut table summaries self.old.passed.items place)
-            → AreClocks table summaries self.new }
+        ensures clocks { WhereClocks self.old (λ table summaries. KnowsNext table summaries self.old client → AreClocks table summaries self.new) }
         ensures next { slice_index self.new.passed.items client ≡ slice_index self.old.passed.items client + 1 }
         ensures kept { (k : ℕ) → slice_index self.old.passed.items k ≤ slice_index self.new.passed.items k }
     {
@@ -221,7 +217,7 @@ impl Clocks {
         requires client { client < length analysis.now.summaries.now }
         requires analysis { IsAnalysis analysis.now }
         requires clocks { AreClocks analysis.now.table.now analysis.now.summaries.now self.old }
-        requires summarized { summary_at analysis.now.summaries.now (record { client = client; index = slice_index self.old.passed.items client }) ≡ Some summary }
+        requires summarized { summary_at analysis.now.summaries.now (next_of self.old client) ≡ Some summary }
         ensures clocks { IfOk result (λ went. IsTrue went → AreClocks analysis.now.table.now analysis.now.summaries.now self.new) }
         ensures next { IfOk result (λ went. IsTrue went → slice_index self.new.passed.items client ≡ slice_index self.old.passed.items client + 1) }
         ensures kept { IfOk result (λ went. IsTrue went → (k : ℕ) → slice_index self.old.passed.items k ≤ slice_index self.new.passed.items k) }
@@ -238,7 +234,7 @@ impl Clocks {
 
     /// Keeps what is passed as a checkpoint, once the puts below the place `below` are passed.
     pub fn keep_passed(&mut self, alloc: Global, below: u32) -> Result<(), AllocError>
-        ensures clocks { (table : List APut) (summaries : List (List ASummary)) → AreClocks table summaries self.old → ArePassed table self.old.passed.items below → OnOk result (AreClocks table summaries self.new) }
+        ensures clocks { WhereClocks self.old (λ table summaries. ArePassed table self.old.passed.items below → OnOk result (AreClocks table summaries self.new)) }
         ensures passed { OnOk result (self.new.passed ≡ self.old.passed) }
     {
         let mut counts = Vec::with_capacity(alloc, self.passed.len())?;

@@ -2,10 +2,9 @@ ghost use Rattle.cops_types.specs.declared.limits.TheConstants.{MAX_OPS};
 ghost use Rattle.std.specs.Prelude.{◌≡◌, ◌<◌, ◌≤◌, ℕ, List, None, IfOk, IsOk, OnOk, length, slice_get, slice_index_or, vec_capacity, Some};
 ghost use Rattle.cops_types.specs.Counts.{count_of};
 ghost use Rattle.cops_types.specs.Histories.{IsNamed, Sessions};
-ghost use Rattle.cops_audit.specs.Keys.{AreFirsts, AreKeys, AreNexts, IsFirstFrom, IsOnKey, KnowsFirsts};
+ghost use Rattle.cops_audit.specs.Keys.{AreFirsts, AreKeys, AreNexts, IsFirstOnItsKey, IsOnKey, KnowsFirsts};
 ghost use Rattle.cops_audit.specs.Placing.{ArePutPlaces};
 ghost use Rattle.cops_audit.specs.Tables.{IsVersionTable};
-ghost use Rattle.cops_types.specs.declared.versioned_put.VersionedPut.{VersionedPut as APut};
 
 use crate::put_places::NO_PLACE;
 use cops_types::{History, OpName, VersionedPut};
@@ -27,8 +26,7 @@ fn number_of(history: &History, name: OpName) -> u32
 /// the key's number.
 pub fn first_on(history: &History, firsts: &[Option<u32>], name: OpName) -> Option<u32>
     requires { IsNamed history.now.sessions name }
-    ensures { (table : List APut) (key : List ℕ) → KnowsFirsts history.now table firsts.now → IsOnKey history.now.sessions name key
-        → IsFirstFrom history.now.sessions table 0 key result }
+    ensures { IsFirstOnItsKey history.now firsts.now name result }
 {
     match firsts.get(number_of(history, name) as usize) {
         Some(first) => *first,

@@ -14,7 +14,7 @@ impl<'a> Names<'a> {
     ghost use Rattle.std.specs.Prelude.{◌≡◌, ◌<◌, ◌+◌, [], IsTrue, length, slice_index_or, slice_range};
     ghost use Rattle.cops_types.specs.declared.limits.TheConstants.{MAX_CLIENT_OPS};
     ghost use Rattle.cops_types.specs.Counts.{count_of};
-    ghost use Rattle.cops_audit.specs.Names.{names_after, names_left, names_of};
+    ghost use Rattle.cops_audit.specs.Names.{names_left, names_of, names_on};
 
     /// The names of `len` operations, from the place `start` on.
     pub fn range(history: &'a History, start: usize, len: usize) -> Self
@@ -53,12 +53,11 @@ impl<'a> Names<'a> {
     /// Goes on to the next operation, where a session is at its end. Returns whether there is one.
     #[inline(always)]
     fn go_on(&mut self) -> bool
-        ensures history { self.new.history ≡ self.old.history }
         ensures left { self.new.left ≡ self.old.left }
-        ensures there { IsTrue result → self.new.index < length (slice_index_or self.old.history.now.sessions self.new.client []) }
+        ensures there { IsTrue result → self.new.index < length (slice_index_or self.new.history.now.sessions self.new.client []) }
         ensures small { IsTrue result → self.new.index < MAX_CLIENT_OPS }
-        ensures same { IsTrue result → names_after self.old.history.now.sessions self.new.client self.new.index ≡ names_after self.old.history.now.sessions self.old.client self.old.index }
-        ensures none { ¬ IsTrue result → names_after self.old.history.now.sessions self.old.client self.old.index ≡ [] }
+        ensures same { IsTrue result → names_on self.new ≡ names_on self.old }
+        ensures none { ¬ IsTrue result → names_on self.old ≡ [] }
     {
         for client in self.client as usize..self.history.clients() {
             self.client = client as u16;

@@ -7,7 +7,7 @@ ghost use Rattle.cops_audit.specs.Verdicts.{ListsStale};
 ghost use Rattle.cops_audit.specs.Names.{names_left};
 ghost use Rattle.cops_audit.specs.Sweeps.{HasRoom, IsIdle};
 ghost use Rattle.cops_audit.specs.Floors.{AreFloors};
-ghost use Rattle.cops_audit.specs.Windows.{AreSuspects, AreSuspectsInOrder, NoneNewer};
+ghost use Rattle.cops_audit.specs.Windows.{AreStaleSuspects, AreSuspects, AreSuspectsInOrder, NoneNewerAmong};
 
 use crate::analysis::Analysis;
 use crate::cleared::clear;
@@ -57,8 +57,7 @@ fn judge_suspects(
 ) -> Result<Vec<Stale>, AllocError>
     requires analysis { IsAnalysis analysis.now }
     requires suspects { (names : List OpName) × AreSuspects analysis.now.history.now.sessions analysis.now.table.now names suspects.items }
-    ensures { (names : List OpName) → AreSuspects analysis.now.history.now.sessions analysis.now.table.now names suspects.items
-        → IfOk result (λ v. ListsStale analysis.now.history.now.sessions names v.items) }
+    ensures { IfOk result (λ v. AreStaleSuspects analysis.now.history.now.sessions analysis.now.table.now suspects.items v.items) }
 {
     let mut left = suspects;
     clear(&mut left, alloc, analysis)?;
@@ -85,7 +84,8 @@ pub fn stale_among(
     if found.as_slice().is_empty() {
         return Ok(Vec::new(alloc));
     }
-    judge_suspects(alloc, analysis, found)
+    let faults = judge_suspects(alloc, analysis, found)?;
+    Ok(faults)
 }
 
 /// Whether one of the suspects is stale. The sweep must have nothing pending. It allocates nothing where the sweep has
@@ -101,7 +101,7 @@ pub fn has_stale(
     requires floors { AreFloors suspects.now floors.now }
     requires idle { IsIdle (length analysis.now.history.now.sessions) (length analysis.now.table.now) sweep.old }
     ensures stale { IfOk result (λ found. IsTrue found → (name : OpName) × (newer : OpName) × IsStale analysis.now.history.now.sessions name newer) }
-    ensures none { IfOk result (λ found. ¬ IsTrue found → (k : ℕ) (d : Suspect) → k < length suspects.now → NoneNewer analysis.now.history.now.sessions (slice_index_or suspects.now k d).op) }
+    ensures none { IfOk result (λ found. ¬ IsTrue found → NoneNewerAmong analysis.now.history.now.sessions suspects.now) }
     ensures idle { OnOk result (IsIdle (length analysis.now.history.now.sessions) (length analysis.now.table.now) sweep.new) }
     ensures room { (space : ℕ) → HasRoom space (map length analysis.now.summaries.now) sweep.old
         → IsOk result × HasRoom space (map length analysis.now.summaries.now) sweep.new }

@@ -6,7 +6,8 @@ ghost use Rattle.cops_types.specs.Operations.{GetsVersion};
 ghost use Rattle.cops_types.specs.Faults.{IsBefore};
 ghost use Rattle.cops_audit.specs.Analyses.{IsPutIndex};
 ghost use Rattle.cops_audit.specs.Names.{ListsAmong, names_left};
-ghost use Rattle.cops_audit.specs.Summaries.{above as above_of, ArePrefixesSummarized, AreLongEnough, AreMarks, HasDone, IsPrefixSummarized, IsMark, IsSeen, IsSourceless};
+ghost use Rattle.cops_audit.specs.Summaries.{above as above_of, ArePrefixesSummarized, AreMarks, AreWholeFrom, HasDone};
+ghost use Rattle.cops_audit.specs.Summaries.{IsPrefixSummarized, IsMark, IsSeen, IsSourceless};
 ghost use Rattle.cops_audit.specs.Tables.{IsVersionTable};
 ghost use Rattle.cops_types.specs.declared.versioned_put.VersionedPut.{VersionedPut};
 
@@ -182,7 +183,7 @@ fn summary_all(
     requires prefixes { ArePrefixesSummarized index.now.history.now.sessions index.now.table.now first (map (λ s. s.items) sessions.old.items) }
     ensures count { length sessions.new.items ≡ length sessions.old.items }
     ensures prefixes { OnOk result (ArePrefixesSummarized index.now.history.now.sessions index.now.table.now first (map (λ s. s.items) sessions.new.items)) }
-    ensures whole { OnOk result (length index.now.table.now ≤ place → AreLongEnough index.now.history.now.sessions first (length sessions.new.items) (map (λ s. s.items) sessions.new.items)) }
+    ensures whole { OnOk result (AreWholeFrom index.now.history.now.sessions index.now.table.now place first (map (λ s. s.items) sessions.new.items)) }
 {
     for k in 0..sessions.len() {
         let summaries = &mut sessions[k];
@@ -229,7 +230,7 @@ impl SessionSummaries {
     ghost use Rattle.cops_types.specs.Histories.{Sessions};
     ghost use Rattle.cops_types.specs.declared.versioned_put.VersionedPut.{VersionedPut};
     ghost use Rattle.std.specs.Prelude.{◌≡◌, ◌≤◌, ℕ, List, IfOk, length};
-    ghost use Rattle.cops_audit.specs.Summaries.{AreSummarized, IsSummarized};
+    ghost use Rattle.cops_audit.specs.Summaries.{AreJoined, AreSummarized, IsSummarized};
     ghost use Rattle.cops_audit.specs.Analyses.{IsPutIndex};
 
     /// The causal summaries of all operations, from the places of the puts and of the sources of pending reads.
@@ -268,8 +269,7 @@ impl SessionSummaries {
     /// The causal summaries of `low` and `high` in one: `low` has those of the clients below some client, `high` those
     /// of the clients from it on.
     pub fn joined(low: SessionSummaries, high: SessionSummaries) -> Result<Self, AllocError>
-        ensures { (h : Sessions) (table : List VersionedPut) (first mid end : ℕ) → AreSummarized h table first mid low → AreSummarized h table mid end high
-            → IfOk result (AreSummarized h table first end) }
+        ensures { IfOk result (AreJoined low high) }
     {
         let SessionSummaries { mut sessions } = low;
         let SessionSummaries {

@@ -7,7 +7,7 @@ ghost use Rattle.cops_types.specs.Faults.{IsBefore};
 ghost use Rattle.cops_types.specs.VersionOrder.{IsDoubled};
 ghost use Rattle.cops_audit.specs.Names.{ListsAmong, names_left};
 ghost use Rattle.cops_types.specs.declared.versioned_put.VersionedPut.{VersionedPut};
-ghost use Rattle.cops_audit.specs.Tables.{AreDoubledPuts, IsPutTable, Repeats, Rises, ReportDoubled, VersionsNeverFall};
+ghost use Rattle.cops_audit.specs.Tables.{AreDoubledPuts, HasEqualNeighbour, IsPutTable, Repeats, Rises, ReportDoubled, VersionsNeverFall};
 
 use crate::names::Names;
 use cops_types::{History, OpName, Version, VersionedPut};
@@ -79,7 +79,7 @@ pub fn first_from(table: &[VersionedPut], version: Version) -> usize
 /// Whether the put at the place before or after has the same version.
 fn has_equal_neighbour(table: &[VersionedPut], place: usize) -> bool
     requires { place < length table.now }
-    ensures { IsTrue result ↔ ((k : ℕ) × (k < length table.now) × ((k + 1 ≡ place) ⊎ (place + 1 ≡ k)) × ((d : VersionedPut) → (slice_index_or table.now k d).version ≡ (slice_index_or table.now place d).version)) }
+    ensures { IsTrue result ↔ HasEqualNeighbour table.now place }
 {
     let put = &table[place];
     if place > 0 {

@@ -52,7 +52,7 @@ returns-in_ok-remember-clause-clocks c = λ _.
       passed = are.passed;
       known_width = are.known_width;
       known = are.known;
-      recent = c.in_ok-remember.ensures table summaries are.recent put.0 put.1;
+      recent = c.in_ok-remember.ensures table summaries are.recent (put.0, put.1);
       checkpoints = are.checkpoints;
     }
 

@@ -11,10 +11,9 @@ pub returns-clause-steps : goal.returns-clause-steps
 returns-clause-steps c =
     let on = c.if-not-go_on.ensures in
     let name : OpName = record { client = c.go_on.new.self.client; index = c.go_on.new.self.index } in
-    ap (take c.args.self.now.left) (sym (on.same refl) ∙ names_first c.args.self.now.history.now.sessions name.client name.index (on.there refl))
+    ap (take c.args.self.now.left) (sym (on.same refl) ∙ names_first c.go_on.new.self.history.now.sessions name.client name.index (on.there refl))
     ∙ take_first c.args.self.now.left name _ (omega (arith, c.if-self-eq0.false))
-    ∙ ap (λ (n : ℕ). name ∷ take (n - 1) (names_after c.args.self.now.history.now.sessions name.client (name.index + 1))) (sym on.left)
-    ∙ ap (λ r. name ∷ take (c.go_on.new.self.left - 1) (names_after r.now.sessions name.client (name.index + 1))) (sym on.history)
+    ∙ ap (λ (n : ℕ). name ∷ take (n - 1) (names_after c.go_on.new.self.history.now.sessions name.client (name.index + 1))) (sym on.left)
 
 pub returns-then-not-go_on-clause-steps : goal.returns-then-not-go_on-clause-steps
 returns-then-not-go_on-clause-steps c = (ap (take c.args.self.now.left) (c.if-not-go_on.ensures.none (λ e. absurd cc)) ∙ take_all c.args.self.now.left [] (omega arith), refl)

@@ -1,4 +1,6 @@
-use Rattle.std.proofs.Common.{◌≡◌, ◌+◌, length, arith, Vec, Global}
+use Rattle.std.proofs.Common.{◌≡◌, ◌+◌, ℕ, length, map, arith, subst, Vec, Global}
+use Rattle.std.proofs.lemmas.List.{length-map}
+use Rattle.cops_audit.specs.Summaries.{AreLongEnough}
 use Rattle.cops_audit.specs.declared.summaries.Summary.{Summary}
 use Rattle.cops_audit.proofs.Summarizing.{prefixes_of_none, summarized_all, summarized_whole}
 use Rattle.cops_audit.proofs.summaries.SessionSummaries.on_clients.Goals as goal
@@ -16,7 +18,8 @@ returns-clause-some c =
     let f = λ (s : Vec Summary Global). s.items in
     let xs = c.summary_all-2.new.sessions.items in
     let ensures = c.in_ok-summary_all-2.ensures in
-    summarized_whole c.args.index.now.history.now.sessions c.args.index.now.table.now c.args.first c.args.end f xs (omega (arith, ensures.count, c.loop-round.invariant.count)) ensures.prefixes (ensures.whole (omega arith))
+    summarized_whole c.args.index.now.history.now.sessions c.args.index.now.table.now c.args.first c.args.end f xs (omega (arith, ensures.count, c.loop-round.invariant.count)) ensures.prefixes
+    (subst (λ (n : ℕ). AreLongEnough c.args.index.now.history.now.sessions c.args.first n (map f xs)) (length-map xs f) (ensures.whole (omega arith)))
 
 pub returns-clause-all : goal.returns-clause-all
 returns-clause-all c = λ from to. summarized_all c.args.index.now.history.now.sessions c.args.index.now.table.now c.args.first c.args.end _ from to (returns-clause-some c)
