@@ -3,7 +3,6 @@ ghost use Rattle.cops_audit.specs.Summaries.{IsSessionSummarized};
 ghost use Rattle.cops_audit.specs.Tables.{IsVersionTable};
 ghost use Rattle.cops_audit.specs.declared.summaries.Summary.{Summary};
 
-use crate::hints::hint_near;
 use crate::op_version::OpVersion;
 use crate::summaries::{Summaries, Summary, see};
 use cops_types::{History, OpName, VersionedPut};
@@ -55,8 +54,7 @@ fn push_session(
             index: index as u32,
         };
         let op_version = OpVersion::of(history, name);
-        let hint = hint_near(table, &op_version, mark);
-        let seen = see(history, table, hint, name, &op_version);
+        let seen = see(history, table, mark, name, &op_version);
         mark = mark.max(seen.above());
         summaries.push_reserved(Summary { seen, mark });
     }

@@ -1,9 +1,10 @@
+//! Where versions are in a table of puts, faster than by a binary search of the table. Every answer is verified in the
+//! table, so the module can be replaced by `table::place_of` alone.
 ghost use Rattle.cops_types.specs.declared.limits.TheConstants.{MAX_OPS};
 ghost use Rattle.std.specs.Prelude.{◌≡◌, ◌≢◌, ◌<◌, ◌≤◌, ℕ, IfSome, IfNone, IsTrue, length, slice_index_or};
 ghost use Rattle.cops_types.specs.declared.versioned_put.VersionedPut.{VersionedPut};
 ghost use Rattle.cops_audit.specs.Tables.{VersionsNeverFall};
 
-use crate::op_version::OpVersion;
 use crate::put_places::NO_PLACE;
 use crate::table::place_of;
 use cops_types::{Version, VersionedPut};
@@ -26,8 +27,7 @@ const MANY: usize = 16_384;
 
 /// An index of a table of puts in order of versions, which says where a version may be. The range of versions is
 /// divided into buckets of one width, about as many as there are puts, and for each bucket the place of its first put
-/// is kept. The index gives only hints: the caller looks in the table, and searches the whole table where the version
-/// is not at the hint.
+/// is kept. That gives only hints, which are verified: where a version is not at its hint, the whole table is searched.
 #[derive(Drop)]
 pub struct Buckets {
     lowest: u64,
@@ -79,8 +79,8 @@ impl Buckets {
         self.offset(version).wrapping_shr(self.shift) as usize
     }
 
-    /// The hint for a version, or `NO_PLACE` where the buckets do not cover it.
-    pub fn hint(&self, table: &[VersionedPut], version: Version) -> u32
+    /// The place where a version may be, or `NO_PLACE` where the buckets do not cover it.
+    fn hint(&self, table: &[VersionedPut], version: Version) -> u32
         requires { length table.now ≤ MAX_OPS }
     {
         let bucket = self.bucket(version);
@@ -91,6 +91,17 @@ impl Buckets {
             return NO_PLACE;
         };
         first_within(table, *start, *end, version)
+    }
+
+    /// The place of a put that has this version, if there is one.
+    pub fn place_of(&self, table: &[VersionedPut], version: Version) -> Option<usize>
+        requires few { length table.now ≤ MAX_OPS }
+        requires in_order { VersionsNeverFall table.now }
+        ensures inside { IfSome result (λ place. place < length table.now) }
+        ensures found { IfSome result (λ place. (d : VersionedPut) → (slice_index_or table.now place d).version ≡ version) }
+        ensures none { IfNone result ((k : ℕ) (d : VersionedPut) → k < length table.now → (slice_index_or table.now k d).version ≢ version) }
+    {
+        hinted_place(table, self.hint(table, version), version)
     }
 }
 
@@ -110,7 +121,7 @@ fn first_within(table: &[VersionedPut], start: u32, end: u32, version: Version) 
 }
 
 /// The place of a put that has this version, looked for first at the hint and then in the whole table.
-pub fn hinted_place(table: &[VersionedPut], hint: u32, version: Version) -> Option<usize>
+fn hinted_place(table: &[VersionedPut], hint: u32, version: Version) -> Option<usize>
     requires { VersionsNeverFall table.now }
     ensures inside { IfSome result (λ place. place < length table.now) }
     ensures found { IfSome result (λ place. (d : VersionedPut) → (slice_index_or table.now place d).version ≡ version) }
@@ -122,26 +133,32 @@ pub fn hinted_place(table: &[VersionedPut], hint: u32, version: Version) -> Opti
     place_of(table, version)
 }
 
-/// How far from a place `hint_near` looks for a version, narrowest first.
+/// How far from a place `place_near` looks for a version first, narrowest first.
 const WIDTHS: [usize; 3] = [16, 256, 4096];
 
-/// A hint for the version that was put or got, from the puts near a place. It is `NO_PLACE` where there is no version
-/// or it is not near.
-pub fn hint_near(table: &[VersionedPut], op_version: &OpVersion, place: u32) -> u32 {
-    let Some(version) = op_version.version() else {
-        return NO_PLACE;
-    };
+/// The place where a version may be among the puts near a place, or `NO_PLACE`.
+fn hint_near(table: &[VersionedPut], version: Version, near: u32) -> u32 {
     let version = version.as_u64();
     for width in WIDTHS {
-        let from = (place as usize).saturating_sub(width).min(table.len());
-        let to = (place as usize).saturating_add(width).min(table.len());
-        let near = &table[from..to];
-        if let (Some(first), Some(last)) = (near.first(), near.last()) {
+        let from = (near as usize).saturating_sub(width).min(table.len());
+        let to = (near as usize).saturating_add(width).min(table.len());
+        let puts = &table[from..to];
+        if let (Some(first), Some(last)) = (puts.first(), puts.last()) {
             if first.version.as_u64() <= version && version <= last.version.as_u64() {
-                let before = near.partition_point(|put| put.version.as_u64() < version);
+                let before = puts.partition_point(|put| put.version.as_u64() < version);
                 return from.saturating_add(before).min(NO_PLACE as usize) as u32;
             }
         }
     }
     NO_PLACE
+}
+
+/// The place of a put that has this version, if there is one. It is found faster where it is near the place `near`.
+pub fn place_near(table: &[VersionedPut], version: Version, near: u32) -> Option<usize>
+    requires { VersionsNeverFall table.now }
+    ensures inside { IfSome result (λ place. place < length table.now) }
+    ensures found { IfSome result (λ place. (d : VersionedPut) → (slice_index_or table.now place d).version ≡ version) }
+    ensures none { IfNone result ((k : ℕ) (d : VersionedPut) → k < length table.now → (slice_index_or table.now k d).version ≢ version) }
+{
+    hinted_place(table, hint_near(table, version, near), version)
 }

@@ -26,12 +26,4 @@ impl OpVersion {
             None => OpVersion::Missed,
         }
     }
-
-    /// The version that was put or got, or `None` for a get that found nothing.
-    pub fn version(&self) -> Option<Version> {
-        match self {
-            OpVersion::Put(version) | OpVersion::Got(version) => Some(*version),
-            OpVersion::Missed => None,
-        }
-    }
 }

@@ -6,7 +6,7 @@ ghost use Rattle.cops_audit.specs.Names.{ListsAmong, names_left};
 ghost use Rattle.cops_audit.specs.Placing.{AreSources, IsSourcePlace};
 ghost use Rattle.cops_audit.specs.Tables.{IsVersionTable};
 
-use crate::hints::{Buckets, hinted_place};
+use crate::hints::Buckets;
 use crate::names::Names;
 use crate::op_version::OpVersion;
 use crate::put_places::NO_PLACE;
@@ -49,8 +49,7 @@ fn source_place(
     let OpRef::Got { version, .. } = got else {
         return None;
     };
-    let hint = buckets.hint(table, *version);
-    let place = hinted_place(table, hint, *version)?;
+    let place = buckets.place_of(table, *version)?;
     let put = history.op(table[place].name)?;
     if put.is_source_of(&got) {
         return Some(place as u32);

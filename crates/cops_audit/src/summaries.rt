@@ -13,7 +13,7 @@ ghost use Rattle.cops_types.specs.declared.versioned_put.VersionedPut.{Versioned
 
 use crate::analysis::PutIndex;
 use crate::flat::Span;
-use crate::hints::hinted_place;
+use crate::hints::place_near;
 use crate::names::Names;
 use crate::op_version::OpVersion;
 use crate::put_places::{NO_PLACE, place_at};
@@ -47,11 +47,11 @@ pub struct Summary {
 /// near in time look up places that are near in memory.
 const STEP: usize = 4096;
 
-/// What an operation did, by the table. The hint is where its version may be.
+/// What an operation did, by the table. It is found faster where its version is near the place `near`.
 pub fn see(
     history: &History,
     table: &[VersionedPut],
-    hint: u32,
+    near: u32,
     name: OpName,
     op_version: &OpVersion,
 ) -> OpPlace
@@ -60,11 +60,11 @@ pub fn see(
     ensures { IsSeen history.now.sessions table.now name result }
 {
     match op_version {
-        OpVersion::Put(version) => match hinted_place(table, hint, *version) {
+        OpVersion::Put(version) => match place_near(table, *version, near) {
             Some(place) => OpPlace::Put(place as u32),
             None => unreachable!(),
         },
-        OpVersion::Got(version) => match hinted_place(table, hint, *version) {
+        OpVersion::Got(version) => match place_near(table, *version, near) {
             Some(place) => see_source(history, table, name, place),
             None => OpPlace::Sourceless(first_from(table, *version) as u32),
         },

@@ -1,4 +1,4 @@
-use Rattle.std.proofs.Common.{◌≡◌, ◌∙◌, ◌++◌, Contains, append-nil, true, ap, inl, inr, sym, subst, arith}
+use Rattle.std.proofs.Common.{◌≡◌, true, inl, inr, sym, subst}
 use Rattle.std.proofs.lemmas.List.Elements.{Contains-push_cases}
 use Rattle.cops_types.specs.Faults.{HasNoSource}
 use Rattle.cops_audit.specs.Names.{names_left}
@@ -9,9 +9,6 @@ use Rattle.cops_audit.proofs.assessing.has_mismatched.Goals as goal
 
 pub is_mismatched-requires-clause-sourceless : goal.is_mismatched-requires-clause-sourceless
 is_mismatched-requires-clause-sourceless c = (sourceless_same c.args.history.now.sessions c.args.table.now c.requires.table c.args.summaries.now c.requires.summaries _).0 (c.is_sourceless.ensures.0 c.if-is_sourceless.true)
-
-pub loop-got-init : goal.loop-got-init
-loop-got-init c = record { split = ap names_left (sym c.into_iter-got-iterator.ensures.into_iter_gives); waiting = λ got at. absurd (omega (arith, at.1)) }
 
 pub loop-got-preserved : goal.loop-got-preserved
 loop-got-preserved c =
@@ -36,8 +33,3 @@ loop-got-preserved-else-is_mismatched c =
         | inr same ↦ subst (IsWaiting h) same (c.is_mismatched.ensures.waiting (λ is. let e = c.if-is_mismatched.false in let t : c.is_mismatched.result ≡ true = is in cc))
       ];
     }
-
-pub returns-clause-waiting : goal.returns-clause-waiting
-returns-clause-waiting c = λ _ got at f.
-    let all = c.loop-got.invariant.split ∙ ap (λ ns. c.loop-got.yielded ++ ns) c.in-None.ensures.steps.0 ∙ append-nil c.loop-got.yielded in
-    c.loop-got.invariant.waiting got (subst (λ ns. Contains ns got) all at) f

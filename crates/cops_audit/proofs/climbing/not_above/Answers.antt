@@ -4,10 +4,9 @@ use Rattle.cops_types.specs.Histories.{Sessions}
 use Rattle.cops_types.specs.declared.op.OpName.{OpName}
 use Rattle.cops_types.specs.Faults.{IsNotAbove, IsNotBelow}
 use Rattle.cops_audit.specs.Climbs.{AreMaxima}
-use Rattle.cops_audit.specs.Names.{names_left}
 use Rattle.cops_audit.specs.declared.verdict.NotAbove.{NotAbove}
 use Rattle.cops_audit.proofs.Acyclic.{same_name}
-use Rattle.cops_audit.proofs.Collect.{collected_all, collected_none, collect_push, collect_skip}
+use Rattle.cops_audit.proofs.Collect.{collected_all, collect_push, collect_skip}
 use Rattle.cops_audit.proofs.climbing.not_above.Goals as goal
 use Rattle.cops_audit.proofs.climbing.not_above.Goals.{then-name-client, else-name-client}
 
@@ -25,12 +24,6 @@ one_fault h a b f g e = same_fault a b e (one_first h b.op a.earlier b.earlier (
 -- a session of which no maximum is known yet
 none_yet : (h : Sessions) (client : ℕ) (maxima : List ℕ) → maxima ≡ [] → AreMaxima h client maxima
 none_yet h client maxima e = subst (AreMaxima h client) (sym e) (λ i maximum at. absurd cc)
-
-pub loop-name-init : goal.loop-name-init
-loop-name-init c = record {
-  faults = collected_none (λ (f : NotAbove). f.op) (λ f. IsNotAbove c.args.history.now.sessions f.op f.earlier) (ap names_left c.into_iter-name-iterator.ensures.into_iter_gives) c.new-faults.ensures.items;
-  maxima = none_yet c.args.history.now.sessions 0 _ c.new-maxima.ensures.items;
-}
 
 pub earlier_not_below-requires : goal.earlier_not_below-requires
 earlier_not_below-requires c =

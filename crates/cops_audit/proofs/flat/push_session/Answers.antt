@@ -1,7 +1,7 @@
-use Rattle.std.proofs.Common.{ℕ, max, ◌+◌, ◌∷◌, ◌++◌, [], List, length, append-nil, append_assoc, length-append, slice_index_or, sym, ap, ◌∙◌, arith}
+use Rattle.std.proofs.Common.{ℕ, max, ◌+◌, ◌∷◌, ◌++◌, [], List, append_assoc, slice_index_or, ap, ◌∙◌, arith}
 use Rattle.cops_audit.specs.declared.summaries.Summary.{Summary}
 use Rattle.cops_audit.proofs.Listing.{slice_get_there}
-use Rattle.cops_audit.proofs.Summarizing.{Summarized, few_places, no_summaries, raised_summary}
+use Rattle.cops_audit.proofs.Summarizing.{Summarized, few_places, raised_summary}
 use Rattle.cops_audit.proofs.flat.push_session.Goals as goal
 
 pub of-op_version-requires : goal.of-op_version-requires
@@ -9,29 +9,6 @@ of-op_version-requires c = slice_get_there (slice_index_or c.args.history.now.se
 
 pub above-requires : goal.above-requires
 above-requires c = omega (arith, few_places c.args.history.now.sessions c.args.table.now c.requires.table _ c.see-seen.result c.see-seen.ensures, c.requires.table.table.few)
-
-pub loop-index-init : goal.loop-index-init
-loop-index-init c = record {
-  summarized = ([], no_summaries c.args.history.now.sessions c.args.table.now c.args.client, sym (append-nil c.args.summaries.now.items));
-  capacity = omega arith;
-  within = omega arith;
-}
-
-pub push_reserved-requires : goal.push_reserved-requires
-push_reserved-requires c =
-    let l = c.loop-index.invariant in
-    omega (
-      arith,
-      l.summarized.1.whole,
-      ap (λ (ns : List Summary). length ns) l.summarized.2,
-      length-append c.args.summaries.now.items l.summarized.0,
-      c.loop-index.summaries.ok.0,
-      c.args.summaries.now.ok.0,
-      l.capacity,
-      c.requires.room,
-      c.session_len-index-end.ensures.count,
-      c.loop-index-test.true,
-    )
 
 pub loop-index-preserved : goal.loop-index-preserved
 loop-index-preserved c =
@@ -52,15 +29,3 @@ loop-index-preserved c =
       capacity = omega (arith, l.invariant.capacity, c.push_reserved.ensures.capacity);
       within = omega (arith, c.session_len-index-end.ensures.count, c.loop-index-test.true);
     }
-
-pub returns-clause-summaries : goal.returns-clause-summaries
-returns-clause-summaries c =
-    let summarized = c.loop-index.invariant.summarized.1 in (
-      c.loop-index.invariant.summarized.0,
-      record {
-        whole = omega (arith, summarized.whole, c.loop-index.invariant.within, c.session_len-index-end.ensures.count, c.loop-index-test.false);
-        seen = summarized.seen;
-        marks = summarized.marks;
-      },
-      c.loop-index.invariant.summarized.2,
-    )

@@ -1,4 +1,4 @@
-use Rattle.std.proofs.Common.{◌≡◌, ◌≤◌, ℕ, get_or, true, refl, sym, subst, arith, rules, map, length}
+use Rattle.std.proofs.Common.{◌≡◌, ◌≤◌, get_or, true, refl, sym, subst, rules, map, length}
 use Rattle.cops_audit.specs.declared.sweep.Sweep.{Sweep}
 use Rattle.cops_audit.specs.declared.window.Suspect.{Suspect}
 use Rattle.cops_audit.specs.Sweeps.{HasRoom, IsAbout, IsNewestIn, IsSweeping, NoneFrom}
@@ -47,25 +47,6 @@ returns-clause-none c =
     let none : Suspect = record { op = record { client = 0; index = 0 }; first = 0; from = 0 } in
     none_then c.in_ok-found.found c.in_ok-found.ensures.none
     (λ w d. subst (λ (s : Suspect). NoneFrom c.args.analysis.now.table.now c.args.analysis.now.summaries.now c.args.analysis.now.firsts.now s.op s.first s.from) (get_or-default c.args.suspects.now c.args.k none d c.requires.inside) w)
-
-pub returns-clause-after : goal.returns-clause-after
-returns-clause-after c =
-    let none : Suspect = record { op = record { client = 0; index = 0 }; first = 0; from = 0 } in
-    let table = c.args.analysis.now.table.now in
-    let summaries = c.args.analysis.now.summaries.now in
-    let sweep = c.newest_in_past.new.self in
-    record {
-      empty = c.in_ok-found.ensures.empty;
-      clients = c.in_ok-found.ensures.sweeping.clients;
-      places = c.in_ok-found.ensures.sweeping.places;
-      sweeping = λ j e.
-          let same : c.args.k ≡ j = omega (arith, e) in
-          subst (λ (i : ℕ). IsSweeping table summaries c.args.analysis.now.firsts.now (get_or c.args.floors.now i 0) sweep (λ _. ⊥)) same c.in_ok-found.ensures.sweeping;
-      about = λ j d e.
-          let same : c.args.k ≡ j = omega (arith, e) in
-          subst (λ (i : ℕ). IsAbout table summaries sweep (get_or c.args.suspects.now i d).op) same
-          (subst (λ (s : Suspect). IsAbout table summaries sweep s.op) (get_or-default c.args.suspects.now c.args.k none d c.requires.inside) c.in_ok-found.ensures.about);
-    }
 
 pub returns-clause-room : goal.returns-clause-room
 returns-clause-room c = λ space room.

@@ -3,20 +3,9 @@ use Rattle.std.proofs.Math.ListN.{length-set}
 use Rattle.std.proofs.lemmas.Bool.{cases_eq}
 use Rattle.cops_audit.specs.Keys.{IsFirstFrom, LinksTo, OnKey}
 use Rattle.cops_audit.proofs.Collect.{get_or-default}
-use Rattle.cops_audit.proofs.Linking.{next_is, first_here, first_kept, keyed_at, linked, none_past_end, written}
+use Rattle.cops_audit.proofs.Linking.{next_is, first_here, first_kept, keyed_at, linked, written}
 use Rattle.cops_audit.proofs.Marks.{slice_get_inside}
 use Rattle.cops_audit.proofs.keys.link.Goals as goal
-
-pub loop-place-init : goal.loop-place-init
-loop-place-init c = record {
-  whole = c.in_ok-set_past_end.ensures.count;
-  width = c.in_ok-set_none.ensures.count ∙ c.keys.ensures.count;
-  nexts = λ t next le at. let l = slice_get_inside c.set_past_end.new.nexts.items t next at in absurd (omega (arith, l, le, c.in_ok-set_past_end.ensures.count));
-  firsts = λ number key at. subst (IsFirstFrom c.args.history.now.sessions c.args.table.now (length c.args.table.now) key) (sym (c.in_ok-set_none.ensures.none number))
-      (none_past_end c.args.history.now.sessions c.args.table.now key);
-  nexts_capacity = c.in_ok-set_past_end.ensures.capacity;
-  firsts_capacity = c.in_ok-set_none.ensures.capacity;
-}
 
 pub index-requires : goal.index-requires
 index-requires c =

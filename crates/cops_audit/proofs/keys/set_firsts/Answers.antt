@@ -1,11 +1,8 @@
 use Rattle.std.proofs.Common.{◌≡◌, ◌<◌, ℕ, Some, length, get_or, slice_get, arith, ap, sym, ◌∙◌}
-use Rattle.cops_audit.proofs.Passing.{all_passed, none_passed, passed_none, passed_on}
+use Rattle.cops_audit.proofs.Passing.{all_passed, passed_none, passed_on}
 use Rattle.cops_audit.proofs.Unique.{stands}
 use Rattle.cops_audit.proofs.keys.set_firsts.Goals as goal
 use Rattle.cops_audit.proofs.keys.set_firsts.Goals.{then-next-table, else-next-table}
-
-pub loop-place-init : goal.loop-place-init
-loop-place-init c = λ h versions are. none_passed h c.args.table.now c.args.nexts.now c.set_own_places.new.places.items c.in_ok-set_own_places.ensures.count c.in_ok-set_own_places.ensures.own
 
 pub loop-place-preserved : goal.loop-place-preserved
 loop-place-preserved c = λ h versions are.

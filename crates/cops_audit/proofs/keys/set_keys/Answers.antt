@@ -12,13 +12,6 @@ use Rattle.cops_audit.proofs.Unique.{stands}
 use Rattle.cops_audit.proofs.keys.set_keys.Goals as goal
 use Rattle.cops_audit.proofs.keys.set_keys.Goals.{then-place-table, else-place-table}
 
-pub loop-reported-init : goal.loop-reported-init
-loop-reported-init c = record {
-  count = omega (arith, c.in_ok-resize.ensures.len, c.resize.new.self.ok.0);
-  each = λ n place number key less. absurd (omega (arith, less));
-  capacity = omega (arith, c.clear.ensures.capacity, c.in_ok-resize.ensures.capacity);
-}
-
 pub number_of-requires : goal.number_of-requires
 number_of-requires c =
     let own = (c.requires.table.table.members c.index-table-place.result).0 (get_or c.args.places.now c.loop-reported.reported-index 0, c.if-place-table.true, sym c.index-table-place.is) in

@@ -1,12 +1,6 @@
-use Rattle.std.proofs.Common.{◌≡◌, ℕ, List, [], length, length-append, ◌∷◌, None, Some, ap, sym, ◌∙◌, arith, slice_get}
+use Rattle.std.proofs.Common.{◌≡◌, [], length, length-append, ◌∷◌, ap, sym, ◌∙◌, arith, slice_get}
 use Rattle.cops_audit.proofs.Sourcing.{all_sourced, places_push}
 use Rattle.cops_audit.proofs.sources.find_sources.Goals as goal
-
-pub loop-number-init : goal.loop-number-init
-loop-number-init c = record {
-  places = λ number place op get at. let gone : None ≡ Some place = ap (λ (s : List ℕ). slice_get s number) (sym c.in_ok-places.ensures.items) ∙ at in cc;
-  count = ap length c.in_ok-places.ensures.items;
-}
 
 pub loop-number-preserved : goal.loop-number-preserved
 loop-number-preserved c =

@@ -1,11 +1,7 @@
-use Rattle.std.proofs.Common.{◌≡◌, ap, refl, subst, true}
+use Rattle.std.proofs.Common.{◌≡◌, refl, subst, true}
 use Rattle.cops_types.specs.Faults.{HasNoSource}
-use Rattle.cops_audit.specs.Names.{names_left}
-use Rattle.cops_audit.proofs.Collect.{collected_all, collected_none, collect_push, collect_skip}
+use Rattle.cops_audit.proofs.Collect.{collect_push, collect_skip}
 use Rattle.cops_audit.proofs.sources.without_source.Goals as goal
-
-pub loop-name-init : goal.loop-name-init
-loop-name-init c = collected_none (λ n. n) (HasNoSource c.args.history.now.sessions) (ap names_left c.into_iter-name-iterator.ensures.into_iter_gives) c.new-faults.ensures.items
 
 pub loop-name-preserved : goal.loop-name-preserved
 loop-name-preserved c =
@@ -16,6 +12,3 @@ pub loop-name-preserved-in-Continue-1 : goal.loop-name-preserved-in-Continue-1
 loop-name-preserved-in-Continue-1 c =
     collect_push (λ n. n) (HasNoSource c.args.history.now.sessions) c.in-Some.name c.requires.in_order c.loop-name.invariant c.in-Some.ensures.steps c.in_ok-push.ensures.items refl
     (c.is_sourceless.ensures.0 c.if-is_sourceless.true) (λ x f e. e)
-
-pub returns : goal.returns
-returns c = collected_all (λ n. n) (HasNoSource c.args.history.now.sessions) c.loop-name.invariant c.in-None.ensures.steps.0

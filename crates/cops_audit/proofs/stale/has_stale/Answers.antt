@@ -7,19 +7,6 @@ use Rattle.cops_audit.proofs.Collect.{each_next}
 use Rattle.cops_audit.proofs.Flooring.{none_at, some_at}
 use Rattle.cops_audit.proofs.stale.has_stale.Goals as goal
 
-pub loop-k-init : goal.loop-k-init
-loop-k-init c = record {
-  none = λ j d less. absurd (omega (arith, less));
-  after = record {
-    empty = c.requires.idle.empty;
-    clients = omega (arith, c.requires.idle.clients, c.requires.analysis.summaries.clients);
-    places = c.requires.idle.places;
-    sweeping = λ j e. absurd (omega (arith, e));
-    about = λ j d e. absurd (omega (arith, e));
-  };
-  room = λ space room. room;
-}
-
 pub loop-k-preserved : goal.loop-k-preserved
 loop-k-preserved c =
     let h = c.args.analysis.now.history.now.sessions in

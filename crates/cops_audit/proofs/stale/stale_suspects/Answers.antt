@@ -2,8 +2,7 @@ use Rattle.std.proofs.Common.{map, get_or, refl, ap, arith}
 use Rattle.std.proofs.lemmas.List.{length-map}
 use Rattle.cops_types.specs.Faults.{IsStale}
 use Rattle.cops_audit.specs.declared.window.Suspect.{Suspect}
-use Rattle.cops_audit.specs.declared.verdict.Stale.{Stale}
-use Rattle.cops_audit.proofs.Collect.{among_here, among_none}
+use Rattle.cops_audit.proofs.Collect.{among_here}
 use Rattle.cops_audit.proofs.Places.{inside_table}
 use Rattle.cops_audit.proofs.Reporting.{report_none, report_stale}
 use Rattle.cops_audit.proofs.Flooring.{none_at, some_at}
@@ -15,18 +14,6 @@ bounds-analysis-place c =
     let none : Suspect = record { op = record { client = 0; index = 0 }; first = 0; from = 0 } in
     let w = some_at _ c.in_ok-found.found c.in-Some.place c.in-Some.is c.in_ok-found.ensures.found none in
     inside_table c.args.analysis.now.table.now c.in-Some.place w.1.put w.1.version w.1.stands
-
-pub loop-k-init : goal.loop-k-init
-loop-k-init c = record {
-  faults = rw c.new-faults.ensures.items (among_none {A = Stale} (λ f. f.op) (λ f. IsStale c.args.analysis.now.history.now.sessions f.op f.newer));
-  after = record {
-    empty = c.requires.idle.empty;
-    clients = omega (arith, c.requires.idle.clients, c.requires.analysis.summaries.clients);
-    places = c.requires.idle.places;
-    sweeping = λ j e. absurd (omega (arith, e));
-    about = λ j d e. absurd (omega (arith, e));
-  };
-}
 
 pub loop-k-preserved : goal.loop-k-preserved
 loop-k-preserved c =

@@ -24,11 +24,11 @@ unreachable-requires c =
     let at = place_of_put h c.args.table.now c.requires.table.table c.args.name v puts in
     c.in-None.ensures.none at.0 d at.1 (ap (λ (q : VersionedPut). q.version) (at.2 d))
 
-pub returns-in-None-hinted_place : goal.returns-in-None-hinted_place
-returns-in-None-hinted_place c =
+pub returns-in-None-place_near : goal.returns-in-None-place_near
+returns-in-None-place_near c =
     let h = c.args.history.now.sessions in
     let v = c.in-Got.version in
     let gets : GetsVersion h c.args.name v = subst (HasDone h c.args.name) c.in-Got.is c.requires.op_version in
     sourceless_at h c.args.table.now c.requires.table c.args.name v gets
-    (λ k d inside same. c.in-None-hinted_place.ensures.none k d inside same)
+    (λ k d inside same. c.in-None-place_near.ensures.none k d inside same)
     c.first_from.result (divides_found c.args.table.now c.first_from.result v c.first_from.ensures.inside c.first_from.ensures.before c.first_from.ensures.from)

@@ -1,7 +1,6 @@
-use Rattle.std.proofs.Common.{◌≡◌, ◌∙◌, ℕ, refl, sym, subst, Some}
+use Rattle.std.proofs.Common.{◌≡◌, ◌∙◌, ℕ, refl, subst, Some}
 use Rattle.cops_audit.specs.Summaries.{StandsAt}
 use Rattle.cops_audit.proofs.Places.{stands_put}
-use Rattle.cops_audit.proofs.Sourcing.{source_seen}
 use Rattle.cops_audit.proofs.summaries.see_named.Goals as goal
 
 pub returns-in-Some : goal.returns-in-Some
@@ -24,8 +23,3 @@ returns-in-Some-put_number c =
     let found : Some c.in_ok-place-2.place ≡ Some at.0 = c.in_ok-place-2.ensures ∙ c.requires.places.report at.0 number c.args.name puts.0 at.1 named in
     let same : at.0 ≡ c.in_ok-place-2.place = cc in
     (puts.0, puts.1, subst (λ (k : ℕ). StandsAt table k c.args.name puts.0) same at.1)
-
-pub returns : goal.returns
-returns c =
-    let at = c.in_ok-number.ensures.pending in
-    source_seen c.args.index.now.history.now.sessions c.args.index.now.table.now c.args.name at.0 c.in_ok-place-3.place (c.requires.sources c.in_ok-number.number c.in_ok-place-3.place at.0 at.1 (sym c.in_ok-place-3.ensures)) at.2

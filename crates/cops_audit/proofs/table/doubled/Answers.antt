@@ -1,12 +1,7 @@
-use Rattle.std.proofs.Common.{◌≡◌, ap, refl, subst, sym, true}
+use Rattle.std.proofs.Common.{◌≡◌, refl, subst, true}
 use Rattle.cops_types.specs.VersionOrder.{IsDoubled}
-use Rattle.cops_audit.specs.Names.{names_left}
-use Rattle.cops_audit.specs.Tables.{ReportDoubled}
-use Rattle.cops_audit.proofs.Collect.{collected_all, collected_none, collect_push, collect_skip}
+use Rattle.cops_audit.proofs.Collect.{collect_push, collect_skip}
 use Rattle.cops_audit.proofs.table.doubled.Goals as goal
-
-pub loop-name-init : goal.loop-name-init
-loop-name-init c = collected_none (λ n. n) (IsDoubled c.args.history.now.sessions) (ap names_left c.into_iter-name-iterator.ensures.into_iter_gives) c.new-faults.ensures.items
 
 pub loop-name-preserved : goal.loop-name-preserved
 loop-name-preserved c =
@@ -17,9 +12,3 @@ pub loop-name-preserved-in-Continue-branch-2 : goal.loop-name-preserved-in-Conti
 loop-name-preserved-in-Continue-branch-2 c =
     collect_push (λ n. n) (IsDoubled c.args.history.now.sessions) c.in-Some.name c.requires.in_order c.loop-name.invariant c.in-Some.ensures.steps c.in_ok-push.ensures.items refl
     (c.is_doubled.ensures.0 c.if-is_doubled.true) (λ x f e. e)
-
-pub returns : goal.returns
-returns c = collected_all (λ n. n) (IsDoubled c.args.history.now.sessions) c.loop-name.invariant c.in-None.ensures.steps.0
-
-pub is_doubled-requires : goal.is_doubled-requires
-is_doubled-requires c = subst (ReportDoubled c.args.history.now) (sym c.as_slice-are_doubled.ensures.value) c.in_ok-doubled.ensures

@@ -7,8 +7,5 @@ bounds-are_doubled-number c =
     let at = (c.in-Some.ensures.number c.in-Some.number).0 refl in
     omega (arith, slice_get_inside c.args.history.now.puts c.in-Some.number c.args.name at, c.requires.whole)
 
-pub returns-in_default : goal.returns-in_default
-returns-in_default c = ((λ e. absurd cc), (λ d. absurd (c.in_default.ensures.none (d.version, d.put))))
-
 pub returns : goal.returns
 returns c = c.requires.each c.in-Some.number c.args.name ((c.in-Some.ensures.number c.in-Some.number).0 refl)

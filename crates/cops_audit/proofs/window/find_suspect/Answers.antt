@@ -1,7 +1,7 @@
 use Rattle.std.proofs.Common.{sym, subst}
 use Rattle.cops_audit.specs.declared.summaries.OpPlace.TheVariants.{Sourceless}
 use Rattle.cops_audit.specs.Summaries.{IsSeen}
-use Rattle.cops_audit.proofs.Clearing.{clear, no_get, no_summary, none_then}
+use Rattle.cops_audit.proofs.Clearing.{clear, no_summary, none_then}
 use Rattle.cops_audit.proofs.Reading.{says}
 use Rattle.cops_audit.proofs.window.find_suspect.Goals as goal
 
@@ -30,8 +30,3 @@ waiting_suspect-requires-clause-waiting c = c.requires.sources c.args.op (seen_o
 pub returns-in-Sourceless-clause-none : goal.returns-in-Sourceless-clause-none
 returns-in-Sourceless-clause-none c = none_then c.waiting_suspect.result c.waiting_suspect.ensures.none
     (clear c.args.analysis.now.history.now.sessions c.args.analysis.now.table.now c.requires.table c.args.analysis.now.summaries.now c.requires.summaries c.requires.sources c.requires.above c.args.op c.in-Some.summary (sym c.in-Some.ensures))
-
-pub returns-in_default-seen-clause-none : goal.returns-in_default-seen-clause-none
-returns-in_default-seen-clause-none c =
-    no_get c.args.analysis.now.history.now.sessions c.args.analysis.now.table.now c.requires.table c.args.analysis.now.summaries.now c.requires.summaries c.requires.sources c.requires.above c.args.op c.in-Some.summary (sym c.in-Some.ensures)
-    c.in_default-seen.not-Got c.in_default-seen.not-Sourceless c.in_default-seen.not-Missed

@@ -27,9 +27,6 @@ returns-then-from-mark-clause-none c =
       | then-from-mark-via-else-from-mark+then-from-analysis w ↦ clear (omega (arith, w.if-from-analysis.true))
     ]
 
-pub first_on-requires : goal.first_on-requires
-first_on-requires c = (_, c.requires.got.4.got)
-
 pub returns-in_default-clause-none : goal.returns-in_default-clause-none
 returns-in_default-clause-none c =
     let h = c.args.analysis.now.history.now.sessions in

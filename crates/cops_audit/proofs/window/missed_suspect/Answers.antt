@@ -4,9 +4,6 @@ use Rattle.cops_types.specs.Operations.{key_of}
 use Rattle.cops_audit.proofs.Suspecting.{missed_clear, missed_far, missed_is}
 use Rattle.cops_audit.proofs.window.missed_suspect.Goals as goal
 
-pub first_on-requires : goal.first_on-requires
-first_on-requires c = (_, c.requires.missed.1)
-
 pub returns-in_default-clause-none : goal.returns-in_default-clause-none
 returns-in_default-clause-none c =
     let h = c.args.analysis.now.history.now.sessions in

@@ -1,14 +1,8 @@
 use Rattle.std.proofs.Common.{refl, ap}
 use Rattle.std.specs.Option.{option_map}
 use Rattle.cops_types.specs.Operations.{key_of}
-use Rattle.cops_audit.proofs.Suspecting.{waiting_clear, waiting_far, waiting_is}
+use Rattle.cops_audit.proofs.Suspecting.{waiting_clear, waiting_is}
 use Rattle.cops_audit.proofs.window.waiting_suspect.Goals as goal
-
-pub first_on-requires : goal.first_on-requires
-first_on-requires c = (_, c.requires.seen.0.got)
-
-pub returns-then-place-mark-clause-none : goal.returns-then-place-mark-clause-none
-returns-then-place-mark-clause-none c = waiting_far c.args.analysis.now.history.now.sessions c.args.analysis.now.table.now c.requires.analysis.table c.args.op c.args.place c.requires.seen c.requires.waiting c.args.mark c.if-place-mark.true
 
 pub returns-in_default-clause-none : goal.returns-in_default-clause-none
 returns-in_default-clause-none c =

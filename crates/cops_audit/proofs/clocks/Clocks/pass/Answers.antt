@@ -11,11 +11,6 @@ use Rattle.cops_audit.proofs.clocks.Clocks.pass.Goals as goal
 pub learn_seen-requires-clause-clocks : goal.learn_seen-requires-clause-clocks
 learn_seen-requires-clause-clocks c = (_, analysis_rising c.args.analysis.now c.requires.analysis, c.requires.clocks)
 
-pub learn_seen-requires-clause-inside : goal.learn_seen-requires-clause-inside
-learn_seen-requires-clause-inside c = λ place is.
-    let name : OpName = record { client = c.args.client; index = slice_index c.args.self.now.passed.items c.args.client } in
-    (analysis_rising c.args.analysis.now c.requires.analysis).seen_gets name place c.args.summary.mark (c.requires.summarized ∙ ap (λ (s : OpPlace). Some (let x : Summary = record { seen = s; mark = c.args.summary.mark } in x)) is)
-
 pub count_next-requires-clause-few : goal.count_next-requires-clause-few
 count_next-requires-clause-few c =
     let name : OpName = record { client = c.args.client; index = slice_index c.args.self.now.passed.items c.args.client } in

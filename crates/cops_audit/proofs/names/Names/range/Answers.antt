@@ -1,6 +1,6 @@
-use Rattle.std.proofs.Common.{◌≡◌, ◌<◌, ◌≤◌, ◌+◌, ◌-◌, ◌∙◌, ℕ, [], drop, length, take, take_all, ap, sym, subst, arith}
+use Rattle.std.proofs.Common.{◌≡◌, ◌<◌, ◌+◌, ◌-◌, ◌∙◌, ℕ, drop, length, take, ap, sym, subst, arith}
 use Rattle.cops_audit.specs.Names.{names_from, names_of}
-use Rattle.cops_audit.proofs.Naming.{drop_past, names_at, names_past}
+use Rattle.cops_audit.proofs.Naming.{names_at, names_past}
 use Rattle.cops_audit.proofs.names.Names.range.Goals as goal
 
 pub returns-then-index-count : goal.returns-then-index-count
@@ -17,10 +17,3 @@ loop-client-preserved c =
     let inside : c.loop-client.client < length h = omega (arith, c.loop-client-test.true, c.clients-client-end.ensures.count) in
     subst (λ (n : ℕ). drop c.args.start (names_of h) ≡ drop (c.loop-client.index - n) (names_from (c.loop-client.client + 1) (drop (c.loop-client.client + 1) h))) (sym c.session_len-count.ensures.count)
     (c.loop-client.invariant ∙ names_past h c.loop-client.client c.loop-client.index inside (omega (arith, c.if-index-count.false, c.session_len-count.ensures.count)))
-
-pub returns : goal.returns
-returns c =
-    let h = c.args.history.now.sessions in
-    let last : length h ≤ c.loop-client.client = omega (arith, c.loop-client-test.false, c.clients-client-end.ensures.count) in
-    let none = c.loop-client.invariant ∙ ap (λ ss. drop c.loop-client.index (names_from c.loop-client.client ss)) (drop_past c.loop-client.client h last) ∙ drop_past c.loop-client.index [] (omega arith) in
-    sym (ap (take (c.args.start + c.args.len - c.args.start)) none ∙ take_all (c.args.start + c.args.len - c.args.start) [] (omega arith))

@@ -1,11 +1,8 @@
-use Rattle.std.proofs.Common.{◌+◌, ◌-◌, ◌∷◌, ◌∙◌, ℕ, [], ap, length, refl, sym, take, take_all, arith}
+use Rattle.std.proofs.Common.{◌+◌, ◌-◌, ◌∷◌, ◌∙◌, ℕ, ap, length, refl, sym, take, arith}
 use Rattle.cops_types.specs.declared.op.OpName.{OpName}
 use Rattle.cops_audit.specs.Names.{names_after}
 use Rattle.cops_audit.proofs.Naming.{names_first, take_first}
 use Rattle.cops_audit.proofs.names.NamesIterator.next.Goals as goal
-
-pub overflow_add-self : goal.overflow_add-self
-overflow_add-self c = omega (arith, c.if-not-go_on.ensures.small refl)
 
 pub returns-clause-steps : goal.returns-clause-steps
 returns-clause-steps c =
@@ -14,9 +11,6 @@ returns-clause-steps c =
     ap (take c.args.self.now.left) (sym (on.same refl) ∙ names_first c.go_on.new.self.history.now.sessions name.client name.index (on.there refl))
     ∙ take_first c.args.self.now.left name _ (omega (arith, c.if-self-eq0.false))
     ∙ ap (λ (n : ℕ). name ∷ take (n - 1) (names_after c.go_on.new.self.history.now.sessions name.client (name.index + 1))) (sym on.left)
-
-pub returns-then-not-go_on-clause-steps : goal.returns-then-not-go_on-clause-steps
-returns-then-not-go_on-clause-steps c = (ap (take c.args.self.now.left) (c.if-not-go_on.ensures.none (λ e. absurd cc)) ∙ take_all c.args.self.now.left [] (omega arith), refl)
 
 pub returns-clause-goes : goal.returns-clause-goes
 returns-clause-goes c = record { on = λ ends. (tt, tt, omega (arith, ap length (returns-clause-steps c))); keeps = tt; rests = λ ends. tt }

@@ -1,4 +1,4 @@
-use Rattle.std.proofs.Common.{◌+◌, AllPairs, IfOk, subst, sym, slice_range}
+use Rattle.std.proofs.Common.{◌+◌, AllPairs, subst, sym, slice_range}
 use Rattle.cops_types.specs.Faults.{IsBefore, IsNotAbove}
 use Rattle.cops_audit.specs.Verdicts.{ListsNotAbove}
 use Rattle.cops_audit.specs.declared.verdict.NotAbove.{NotAbove}
@@ -10,11 +10,6 @@ use Rattle.cops_audit.proofs.puts.Puts.not_above.Goals as goal
 
 pub not_above-requires : goal.not_above-requires
 not_above-requires c = subst (AllPairs IsBefore) (sym c.range-names.ensures) (range_in_order (names_of c.self.inside.history.now.sessions) c.args.start (c.args.start + c.args.len) c.self.invariant.0.names.in_order)
-
-pub returns : goal.returns
-returns c =
-    subst (λ (s : Sorted). IfOk c.not_above.result (λ v. ListsNotAbove s.sessions (slice_range s.names c.args.start (c.args.start + c.args.len)) v.items)) c.self.view_is
-    (subst (λ ns. IfOk c.not_above.result (λ v. ListsNotAbove c.self.inside.history.now.sessions ns v.items)) c.range-names.ensures c.not_above.ensures)
 
 pub returns-then-are_puts_above : goal.returns-then-are_puts_above
 returns-then-are_puts_above c =

@@ -1,4 +1,4 @@
-use Rattle.std.proofs.Common.{◌+◌, AllPairs, IfOk, subst, sym, slice_range}
+use Rattle.std.proofs.Common.{◌+◌, AllPairs, subst, sym, slice_range}
 use Rattle.cops_types.specs.Faults.{HasNoSource, IsBefore}
 use Rattle.cops_types.specs.declared.op.OpName.{OpName}
 use Rattle.cops_audit.specs.Names.{ListsAmong}
@@ -10,11 +10,6 @@ use Rattle.cops_audit.proofs.puts.Puts.without_source.Goals as goal
 
 pub without_source-requires-clause-in_order : goal.without_source-requires-clause-in_order
 without_source-requires-clause-in_order c = subst (AllPairs IsBefore) (sym c.range-names.ensures) (range_in_order (names_of c.self.inside.history.now.sessions) c.args.start (c.args.start + c.args.len) c.self.invariant.0.names.in_order)
-
-pub returns : goal.returns
-returns c =
-    subst (λ (s : Sorted). IfOk c.without_source.result (λ v. ListsAmong {A = OpName} (λ n. n) (HasNoSource s.sessions) (slice_range s.names c.args.start (c.args.start + c.args.len)) v.items)) c.self.view_is
-    (subst (λ ns. IfOk c.without_source.result (λ v. ListsAmong {A = OpName} (λ n. n) (HasNoSource c.self.inside.history.now.sessions) ns v.items)) c.range-names.ensures c.without_source.ensures)
 
 pub returns-then-self : goal.returns-then-self
 returns-then-self c =

@@ -1,4 +1,4 @@
-use Rattle.std.proofs.Common.{AllPairs, Contains, ap, length, sym, subst, arith}
+use Rattle.std.proofs.Common.{AllPairs, Contains, sym, subst, arith}
 use Rattle.cops_types.specs.declared.op.OpName.{OpName}
 use Rattle.cops_types.specs.Faults.{HasNoSource, IsBefore, Lists}
 use Rattle.cops_types.specs.Histories.{IsNamed}
@@ -16,9 +16,6 @@ has_stale-requires-clause-sources c =
 
 pub count_sourceless-waiting-requires-clause-in_order : goal.count_sourceless-waiting-requires-clause-in_order
 count_sourceless-waiting-requires-clause-in_order c = subst (AllPairs IsBefore) (sym c.all-2.ensures.names) (names_listed c.args.history.now.sessions).in_order
-
-pub count_sourceless-waiting-requires-clause-few : goal.count_sourceless-waiting-requires-clause-few
-count_sourceless-waiting-requires-clause-few c = omega (arith, ap length c.all-2.ensures.names, c.all-2.ensures.count, c.requires.summarized.limits.all)
 
 pub returns-then-waiting-eq0-clause-so_far : goal.returns-then-waiting-eq0-clause-so_far
 returns-then-waiting-eq0-clause-so_far c =

@@ -1,6 +1,6 @@
-use Rattle.std.proofs.Common.{refl, arith, rules, map, length}
+use Rattle.std.proofs.Common.{refl, arith, map, length}
 use Rattle.cops_audit.proofs.Bridging.{analysis_rising}
-use Rattle.cops_audit.proofs.Fitting.{no_ok, room_popped}
+use Rattle.cops_audit.proofs.Fitting.{room_popped}
 use Rattle.cops_audit.proofs.Sweeping.{grows_on, none_popped, popped}
 use Rattle.cops_audit.proofs.sweep.Sweep.drain.Goals as goal
 
@@ -14,15 +14,6 @@ loop-range-preserved c = record {
   room = λ space room. (c.in_ok-look.ensures.room space
       (room_popped space (map length c.args.analysis.now.summaries.now) c.loop-range.self _ refl refl (omega (arith, c.in-Some.ensures.len)) c.in-Some.ensures.capacity (c.loop-range.invariant.room space room))).1;
 }
-
-pub returns-clause-room : goal.returns-clause-room
-returns-clause-room c = λ space room.
-    let pop = c.in_default.ensures in
-    (search rules, room_popped space (map length c.args.analysis.now.summaries.now) c.loop-range.self _ refl refl (omega (arith, pop.len)) pop.capacity (c.loop-range.invariant.room space room))
-
-pub returns-in_err-look-clause-room : goal.returns-in_err-look-clause-room
-returns-in_err-look-clause-room c = λ space room. no_ok (c.in_err-look.ensures.room space
-    (room_popped space (map length c.args.analysis.now.summaries.now) c.loop-range.self _ refl refl (omega (arith, c.in-Some.ensures.len)) c.in-Some.ensures.capacity (c.loop-range.invariant.room space room))).0
 
 pub returns-clause-sweeping : goal.returns-clause-sweeping
 returns-clause-sweeping c =

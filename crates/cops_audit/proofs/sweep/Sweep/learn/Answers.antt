@@ -3,7 +3,7 @@ use Rattle.cops_audit.specs.declared.summaries.OpPlace.{OpPlace}
 use Rattle.cops_audit.specs.declared.summaries.OpPlace.TheVariants.{Got}
 use Rattle.cops_types.specs.declared.versioned_put.VersionedPut.{VersionedPut}
 use Rattle.cops_audit.specs.Summaries.{above, StandsAt}
-use Rattle.cops_audit.proofs.Fitting.{no_ok, room_same}
+use Rattle.cops_audit.proofs.Fitting.{no_ok}
 use Rattle.cops_audit.proofs.Learning.{learns_put, learns_got}
 use Rattle.cops_audit.proofs.Places.{stands_item}
 use Rattle.cops_audit.proofs.sweep.Sweep.learn.Goals as goal
@@ -20,11 +20,6 @@ returns-in_ok-raise-in-Got-clause-learns c =
     let put = c.index-table-place.result in
     learns_got c.args.table.now c.args.firsts.now c.args.self.now c.raise.new.self c.args.seen c.in-Got.place put.name put.version c.in-Got.is
     (here c.args.table.now c.args.seen c.in-Got.place put c.in-Got.is c.requires.seen c.index-table-place.is) c.in_ok-raise-in-Got.ensures.raises
-
-pub returns-in-Put-clause-room : goal.returns-in-Put-clause-room
-returns-in-Put-clause-room c = λ space lengths covers room.
-    let put = c.take_put.ensures in
-    (search rules, room_same space lengths c.args.self.now c.take_put.new.self put.counts put.newest.width put.pending room)
 
 pub returns-in_ok-raise-in-Got-clause-room : goal.returns-in_ok-raise-in-Got-clause-room
 returns-in_ok-raise-in-Got-clause-room c = λ space lengths covers room.

@@ -1,5 +1,4 @@
-use Rattle.std.proofs.Common.{◌≡◌, true, arith, rules}
-use Rattle.cops_audit.proofs.Fitting.{no_ok}
+use Rattle.std.proofs.Common.{◌≡◌, true, arith}
 use Rattle.cops_audit.proofs.Sweeping.{grows_on}
 use Rattle.cops_audit.proofs.sweep.Sweep.look.Goals as goal
 
@@ -13,12 +12,3 @@ loop-index-preserved c = record {
   work = omega (arith, c.in_ok-on.ensures.work, c.loop-index.invariant.work);
   room = λ space room. (c.in_ok-on.ensures.room space (c.loop-index.invariant.room space room)).1;
 }
-
-pub returns-clause-room : goal.returns-clause-room
-returns-clause-room c = λ space room. (search rules, c.loop-index.invariant.room space room)
-
-pub returns-then-not-on-clause-room : goal.returns-then-not-on-clause-room
-returns-then-not-on-clause-room c = λ space room. (search rules, (c.in_ok-on.ensures.room space (c.loop-index.invariant.room space room)).1)
-
-pub returns-in_err-on-clause-room : goal.returns-in_err-on-clause-room
-returns-in_err-on-clause-room c = λ space room. no_ok (c.in_err-on.ensures.room space (c.loop-index.invariant.room space room)).0

@@ -3,7 +3,7 @@ use Rattle.cops_audit.specs.Sweeps.{next_after}
 use Rattle.cops_audit.proofs.Bridging.{analysis_places, analysis_rising}
 use Rattle.cops_audit.proofs.Chaining.{put_inside}
 use Rattle.cops_audit.proofs.Fitting.{covered, no_ok}
-use Rattle.cops_audit.proofs.Sweeping.{above_few, sweep_on, sweep_grows, sweep_past, none_open, low_range}
+use Rattle.cops_audit.proofs.Sweeping.{above_few, sweep_on, sweep_grows, none_open, low_range}
 use Rattle.cops_audit.proofs.sweep.Sweep.look_at.Goals as goal
 
 pub learn-requires-clause-firsts : goal.learn-requires-clause-firsts
@@ -28,9 +28,6 @@ returns-clause-grows c = sweep_grows c.args.analysis.now.table.now c.args.analys
 pub returns-then-summary-floor-clause-done : goal.returns-then-summary-floor-clause-done
 returns-then-summary-floor-clause-done c = λ _. none_open c.args.analysis.now.table.now c.args.analysis.now.summaries.now (analysis_rising c.args.analysis.now c.requires.analysis) c.args.analysis.now.firsts.now c.args.floor c.args.self.now _
     (low_range c.args.analysis.now.table.now c.args.analysis.now.summaries.now (analysis_rising c.args.analysis.now c.requires.analysis) c.args.analysis.now.firsts.now c.args.floor (next_after c.args.left) c.args.left.from c.in-Some.summary (sym c.requires.summarized ∙ c.in-Some.is) c.if-summary-floor.true) c.requires.sweeping
-
-pub returns-in_default-clause-on : goal.returns-in_default-clause-on
-returns-in_default-clause-on c = λ _. sweep_past c.args.analysis.now.table.now c.args.analysis.now.summaries.now (analysis_rising c.args.analysis.now c.requires.analysis) c.args.analysis.now.firsts.now c.args.floor c.args.self.now (next_after c.args.left) c.args.left.from (sym c.requires.summarized ∙ c.in_default.is) c.requires.sweeping
 
 pub returns-clause-room : goal.returns-clause-room
 returns-clause-room c = λ space room. (

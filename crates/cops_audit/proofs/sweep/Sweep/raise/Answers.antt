@@ -1,8 +1,8 @@
-use Rattle.std.proofs.Common.{◌≡◌, ◌^◌, ◌<◌, ℕ, ◌++◌, ◌∷◌, [], get_or, refl, sym, ◌∙◌, ap, subst, inl, inr, arith, rules}
+use Rattle.std.proofs.Common.{◌≡◌, ◌^◌, ◌<◌, ℕ, ◌++◌, ◌∷◌, [], get_or, refl, sym, ◌∙◌, ap, subst, inl, inr, arith}
 use Rattle.std.proofs.Math.ListN.{length-set}
 use Rattle.cops_audit.specs.declared.sweep.OpRange.{OpRange}
 use Rattle.cops_audit.specs.Sweeps.{InSome}
-use Rattle.cops_audit.proofs.Fitting.{room_kept, room_left}
+use Rattle.cops_audit.proofs.Fitting.{room_left}
 use Rattle.cops_audit.proofs.Raising.{counted_then, counted_kept, counted_raised, newly_in_range, room_falls, in_some_kept, in_some_last, in_some_cases}
 use Rattle.cops_audit.proofs.sweep.Sweep.raise.Goals as goal
 
@@ -34,13 +34,6 @@ returns-in_ok-push-clause-raises c =
       newest = refl;
       work = omega (arith, room_falls xs k to c.requires (2 ^ 32) less (omega (arith, c.ranges.to)), c.in_ok-push.ensures.len);
     }
-
-pub returns-in_ok-push-clause-room : goal.returns-in_ok-push-clause-room
-returns-in_ok-push-clause-room c = λ space lengths fits room. (
-  search rules,
-  room_kept space lengths c.args.self.now c.args.client c.args.to c.requires (omega (arith, c.get-from.ensures, c.if-from-to.true)) fits room
-      _ c.set.ensures refl c.in_ok-push.ensures.len c.in_ok-push.ensures.capacity,
-)
 
 pub returns-in_err-push-clause-room : goal.returns-in_err-push-clause-room
 returns-in_err-push-clause-room c = λ space lengths fits room.
