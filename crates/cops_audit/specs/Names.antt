@@ -2,8 +2,10 @@
 use Rattle.std.specs.Prelude.{◌+◌, ◌↔◌, ℕ, List, [], ◌∷◌, ◌++◌, Contains, AllPairs, drop, slice_index_or, take}
 use Rattle.cops_types.specs.declared.op.OpName.{OpName}
 use Rattle.cops_types.specs.Histories.{Operation, Sessions}
-use Rattle.cops_types.specs.Faults.{IsBefore}
+use Rattle.cops_types.specs.Faults.{IsBefore, IsNotAbove, IsStale}
 use Rattle.cops_audit.specs.declared.names.Names.{Names}
+use Rattle.cops_audit.specs.declared.verdict.NotAbove.{NotAbove}
+use Rattle.cops_audit.specs.declared.verdict.Stale.{Stale}
 
 -- the names of a client's operations, of which the first has this index
 abbrev pub session_names : ℕ → ℕ → List Operation → List OpName
@@ -34,3 +36,12 @@ names_left names = take names.left (names_on names)
 pub record ListsAmong {A : Type 0} (name_of : A → OpName) (IsFault : A → Type 0) (names : List OpName) (faults : List A) : Type 0 where
   pub members : (x : A) → Contains faults x ↔ (IsFault x × Contains names (name_of x))
   pub in_order : AllPairs (λ x y. IsBefore (name_of x) (name_of y)) faults
+
+-- exactly the puts among these names that are not above what their sessions saw, each with the first earlier operation whose version is not below
+-- its own, in order of names
+abbrev pub ListsNotAbove : Sessions → List OpName → List NotAbove → Type 0
+ListsNotAbove h = ListsAmong (λ f. f.op) (λ f. IsNotAbove h f.op f.earlier)
+
+-- exactly the stale gets among these names, each with the newest put on its key in its past, in order of names
+abbrev pub ListsStale : Sessions → List OpName → List Stale → Type 0
+ListsStale h = ListsAmong (λ f. f.op) (λ f. IsStale h f.op f.newer)

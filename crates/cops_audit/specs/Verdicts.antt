@@ -3,12 +3,8 @@ use Rattle.std.specs.Prelude.{◌≡◌, List}
 use Rattle.cops_types.specs.declared.op.OpName.{OpName}
 use Rattle.cops_types.specs.Histories.{Sessions}
 use Rattle.cops_types.specs.Convergence.{ConvergesBy}
-use Rattle.cops_types.specs.Faults.{IsNotAbove, IsStale}
 use Rattle.cops_types.specs.Verdicts.{IsAccepted, RefusesDoubled, RefusesNoSource, RefusesNotAbove, RefusesStale}
 use Rattle.cops_types.specs.VersionOrder.{IsVersionOrder, NoneDoubled}
-use Rattle.cops_audit.specs.Names.{ListsAmong}
-use Rattle.cops_audit.specs.declared.verdict.NotAbove.{NotAbove}
-use Rattle.cops_audit.specs.declared.verdict.Stale.{Stale}
 use Rattle.cops_audit.specs.declared.verdict.Verdict.{Verdict}
 use Rattle.cops_audit.specs.declared.verdict.Verdict.TheVariants.{Accepted, Refused}
 use Rattle.cops_audit.specs.declared.verdict.Faults.{Faults}
@@ -21,15 +17,6 @@ IsVerdict h (Refused (class.Doubled names)) = RefusesDoubled h names.items
 IsVerdict h (Refused (class.NoSource names)) = RefusesNoSource h names.items
 IsVerdict h (Refused (class.NotAbove faults)) = RefusesNotAbove h (λ f. f.op) (λ f. f.earlier) faults.items
 IsVerdict h (Refused (class.Stale faults)) = RefusesStale h (λ f. f.op) (λ f. f.newer) faults.items
-
--- exactly the puts among these names that are not above what their sessions saw, each with the first earlier operation whose version is not below
--- its own, in order of names
-abbrev pub ListsNotAbove : Sessions → List OpName → List NotAbove → Type 0
-ListsNotAbove h = ListsAmong (λ f. f.op) (λ f. IsNotAbove h f.op f.earlier)
-
--- exactly the stale gets among these names, each with the newest put on its key in its past, in order of names
-abbrev pub ListsStale : Sessions → List OpName → List Stale → Type 0
-ListsStale h = ListsAmong (λ f. f.op) (λ f. IsStale h f.op f.newer)
 
 -- no two puts have the same version, and the history converges by the order of its versions
 abbrev pub ConvergesByVersions : Sessions → Type 0

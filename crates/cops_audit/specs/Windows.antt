@@ -6,7 +6,7 @@ use Rattle.cops_types.specs.Faults.{IsBefore, IsNewer}
 use Rattle.cops_types.specs.declared.versioned_put.VersionedPut.{VersionedPut}
 use Rattle.cops_audit.specs.declared.verdict.Stale.{Stale}
 use Rattle.cops_audit.specs.declared.window.Suspect.{Suspect}
-use Rattle.cops_audit.specs.Verdicts.{ListsStale}
+use Rattle.cops_audit.specs.Names.{ListsStale}
 use Rattle.cops_audit.specs.Keys.{IsFirstOn, OnKey}
 use Rattle.cops_audit.specs.Summaries.{StandsAt}
 

@@ -3,8 +3,7 @@ ghost use Rattle.cops_types.specs.declared.op.OpName.{OpName};
 ghost use Rattle.cops_types.specs.Histories.{Sessions};
 ghost use Rattle.cops_types.specs.Faults.{HasVersion, IsBefore, IsNotAbove, IsNotBelow};
 ghost use Rattle.cops_audit.specs.Climbs.{AreMaxima};
-ghost use Rattle.cops_audit.specs.Names.{names_left};
-ghost use Rattle.cops_audit.specs.Verdicts.{ListsNotAbove};
+ghost use Rattle.cops_audit.specs.Names.{ListsNotAbove, names_left};
 
 use crate::names::Names;
 use crate::verdict::NotAbove;

@@ -52,9 +52,9 @@ impl<'a> Puts<'a> {
     ghost use Rattle.cops_types.specs.Faults.{HasNoSource, IsBefore};
     ghost use Rattle.cops_types.specs.Verdicts.{AllAbove, AllHaveSources};
     ghost use Rattle.cops_types.specs.VersionOrder.{IsDoubled};
-    ghost use Rattle.cops_audit.specs.Names.{ListsAmong};
+    ghost use Rattle.cops_audit.specs.Names.{ListsAmong, ListsNotAbove};
     ghost use Rattle.cops_audit.specs.Tables.{Repeats, Rises};
-    ghost use Rattle.cops_audit.specs.Verdicts.{IsVerdict, ListsNotAbove};
+    ghost use Rattle.cops_audit.specs.Verdicts.{IsVerdict};
 
     /// The puts of a history. The only error is `AllocError`, where memory runs out.
     pub fn new(alloc: Global, history: &'a History) -> Result<Self, AllocError>

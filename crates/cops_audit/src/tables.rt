@@ -41,7 +41,8 @@ impl<'a> Tables<'a> {
     ghost use Rattle.cops_types.specs.Faults.{IsBefore};
     ghost use Rattle.cops_types.specs.Verdicts.{AllAbove, AllHaveSources};
     ghost use Rattle.cops_audit.specs.Tables.{Rises};
-    ghost use Rattle.cops_audit.specs.Verdicts.{IsVerdict, ListsStale};
+    ghost use Rattle.cops_audit.specs.Verdicts.{IsVerdict};
+    ghost use Rattle.cops_audit.specs.Names.{ListsStale};
 
     /// The tables of puts. The only error is `AllocError`, where memory runs out.
     pub fn new(alloc: Global, puts: Puts<'a>) -> Result<Self, AllocError>

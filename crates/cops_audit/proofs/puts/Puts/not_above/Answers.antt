@@ -1,9 +1,8 @@
 use Rattle.std.proofs.Common.{◌+◌, AllPairs, subst, sym, slice_range}
 use Rattle.cops_types.specs.Faults.{IsBefore, IsNotAbove}
-use Rattle.cops_audit.specs.Verdicts.{ListsNotAbove}
+use Rattle.cops_audit.specs.Names.{ListsNotAbove, names_of}
 use Rattle.cops_audit.specs.declared.verdict.NotAbove.{NotAbove}
 use Rattle.cops_audit.proofs.Collect.{among_faultless}
-use Rattle.cops_audit.specs.Names.{names_of}
 use Rattle.cops_audit.specs.Sorted.{Sorted}
 use Rattle.cops_audit.proofs.Ranges.{range_in_order}
 use Rattle.cops_audit.proofs.puts.Puts.not_above.Goals as goal

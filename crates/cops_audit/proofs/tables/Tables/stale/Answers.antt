@@ -1,10 +1,9 @@
 use Rattle.std.proofs.Common.{◌+◌, IfOk, subst, sym, AllPairs, slice_range}
 use Rattle.cops_types.specs.Faults.{IsBefore}
 use Rattle.cops_types.specs.Verdicts.{AllAbove, AllHaveSources}
-use Rattle.cops_audit.specs.Names.{names_of}
+use Rattle.cops_audit.specs.Names.{ListsStale, names_of}
 use Rattle.cops_audit.specs.Summaries.{IsSummarized}
 use Rattle.cops_audit.specs.Summarized.{Summarized}
-use Rattle.cops_audit.specs.Verdicts.{ListsStale}
 use Rattle.cops_audit.proofs.Bridging.{is_analysis}
 use Rattle.cops_audit.proofs.Classes.{sourced_wait}
 use Rattle.cops_audit.proofs.Ranges.{range_in_order}
