@@ -5,9 +5,10 @@ use Rattle.std.proofs.Math.Seq.{get_or-append_seam}
 use Rattle.std.proofs.lemmas.Bool.{cases_lt, lt-ltb, le-ltb}
 use Rattle.std.proofs.lemmas.List.{get_or_append_left}
 use Rattle.cops_types.specs.declared.gate.Point.{Point}
+use Rattle.cops_types.specs.declared.op.OpName.{OpName}
 use Rattle.cops_batch.specs.declared.pieces.Piece.{Piece}
 use Rattle.cops_batch.specs.declared.pieces.PieceState.TheVariants.{Held}
-use Rattle.cops_batch.specs.Pieces.{Each, IsCut, IsStoppedByGate, MayHoldPiece, SamePlaces, piece_len}
+use Rattle.cops_batch.specs.Pieces.{ArePieces, Each, IsCut, IsStoppedByGate, MayHoldPiece, SamePlace, SamePlaces, piece_len}
 
 -- one more piece at the end
 pub cut_more : (i a b : ℕ) (ps : List Piece) (p : Piece) → IsCut i a ps b → p.number ≡ i + length ps → p.start ≡ b → IsCut i a (ps ++ p ∷ []) (b + p.len)
@@ -48,25 +49,32 @@ cut_number i a b [] k d cut below = absurd (omega arith)
 cut_number i a b (p ∷ ps) zero d cut below = omega (arith, cut.0)
 cut_number i a b (p ∷ ps) (suc k) d cut below = omega (arith, cut_number (i + 1) (a + p.len) b ps k d cut.2 (omega arith))
 
--- pieces with the same numbers, starts and lengths are cut in the same way
-pub cut_same : (i a b : ℕ) (ps qs : List Piece) → length qs ≡ length ps → SamePlaces ps qs → IsCut i a ps b → IsCut i a qs b
+cut_same : (i a b : ℕ) (ps qs : List Piece) → length qs ≡ length ps → ((k : ℕ) (d : Piece) → k < length ps → SamePlace (slice_index_or ps k d) (slice_index_or qs k d)) → IsCut i a ps b → IsCut i a qs b
 cut_same i a b [] [] len same cut = cut
 cut_same i a b [] (q ∷ qs) len same cut = absurd (omega (arith, len))
 cut_same i a b (p ∷ ps) [] len same cut = absurd (omega (arith, len))
 cut_same i a b (p ∷ ps) (q ∷ qs) len same cut =
     let here = same zero p (omega arith) in
-    let n : q.len ≡ p.len = here.2 in
     let P : ℕ → Type 0 = λ k. IsCut (i + 1) (a + k) qs b in (
       here.0 ∙ cut.0,
       here.1 ∙ cut.1,
-      subst P (sym n) (cut_same (i + 1) (a + p.len) b ps qs (omega (arith, len)) (λ k d below. same (suc k) d (omega (arith, below))) cut.2),
+      subst P (sym here.2) (cut_same (i + 1) (a + p.len) b ps qs (omega (arith, len)) (λ k d below. same (suc k) d (omega (arith, below))) cut.2),
     )
 
+-- pieces with the same numbers, starts and lengths are pieces of as many operations
+pub pieces_same : {names : List OpName} {ps qs : List Piece} → SamePlaces ps qs → ArePieces names ps → ArePieces names qs
+pieces_same {names} {ps} {qs} same pieces = record {
+  in_order = pieces.in_order;
+  cut = cut_same 0 0 (length names) ps qs same.len same.each pieces.cut;
+  within = λ k d below. (let s = same.each k d (omega (arith, below, same.len)) in omega (arith, pieces.within k d (omega (arith, below, same.len)), s.1, s.2));
+  some = omega (arith, pieces.some, same.len);
+  few = omega (arith, pieces.few, same.len);
+}
+
 -- where a piece was held, the gate may hold it
-pub held_at : (may_hold : Point → Type 0) (ps : List Piece) (k : ℕ) (p : Piece) (b : ℕ) → k < length ps → p ≡ get_or ps k p → p.state ≡ Held
-    → IsCut 0 0 ps b → Each (IsStoppedByGate may_hold) ps → (x : ℕ) × (x < length ps) × MayHoldPiece may_hold x
-held_at may_hold ps k p b below is state cut all =
-    let n : p.number ≡ 0 + k = ap (λ (q : Piece). q.number) is ∙ cut_number 0 0 b ps k p cut below in
-    let P : Piece → Type 0 = IsStoppedByGate may_hold in
-    let mine : IsStoppedByGate may_hold p = subst P (sym is) (all k p below) in
+pub held_at : (may_hold : Point → Type 0) (ps : List Piece) (k : ℕ) (p : Piece) → k < length ps → p ≡ get_or ps k p → p.state ≡ Held
+    → (names : List OpName) × ArePieces names ps → Each (IsStoppedByGate may_hold) ps → (x : ℕ) × (x < length ps) × MayHoldPiece may_hold x
+held_at may_hold ps k p below is state pieces all =
+    let n : p.number ≡ 0 + k = ap (λ (q : Piece). q.number) is ∙ cut_number 0 0 (length pieces.0) ps k p pieces.1.cut below in
+    let mine : IsStoppedByGate may_hold p = subst (IsStoppedByGate may_hold) (sym is) (all k p below) in
     (p.number, omega (arith, n, below), mine state)

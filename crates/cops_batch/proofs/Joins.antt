@@ -1,5 +1,5 @@
 -- The faults of the pieces, one after the other.
-use Rattle.std.proofs.Common.{◌≡◌, ℕ, zero, suc, ◌+◌, ◌-◌, ◌<◌, ◌≤◌, List, [], ◌∷◌, ◌++◌, length, length-append, sym, ◌∙◌, ap, inl, inr, arith, subst, get_or, take, drop, flat_map, slice_range, Contains, AllPairs}
+use Rattle.std.proofs.Common.{◌≡◌, ℕ, zero, suc, ◌+◌, ◌-◌, ◌<◌, ◌≤◌, List, [], ◌∷◌, ◌++◌, length, length-append, refl, sym, ◌∙◌, ap, inl, inr, arith, subst, get_or, take, drop, flat_map, slice_range, Contains, AllPairs}
 use Rattle.std.proofs.lemmas.Bool.{cases_lt}
 use Rattle.std.proofs.lemmas.List.{take-append-drop, drop_all, get_or_append_left, get_or-append-add}
 use Rattle.std.proofs.lemmas.List.Elements.{Contains-append_left, Contains-append_right, Contains-append_cases, Contains-get_or}
@@ -9,15 +9,10 @@ use Rattle.cops_types.specs.Faults.{IsBefore}
 use Rattle.cops_audit.specs.Names.{ListsAmong}
 use Rattle.cops_batch.specs.declared.pieces.Piece.{Piece}
 use Rattle.cops_batch.specs.declared.pieces.PieceState.TheVariants.{Fine}
-use Rattle.cops_batch.specs.Pieces.{Each, IsCut, names_of}
+use Rattle.cops_batch.specs.Pieces.{ArePieces, Each, IsCut, names_of}
 use Rattle.cops_audit.proofs.Collect.{get_or-default}
 
 module _ {A : Type 0} (R : A → A → Type 0) (xs ys : List A) where
-  pairs_prefix : AllPairs R (xs ++ ys) → AllPairs R xs
-  pairs_prefix all i j d less inside =
-      rw (get_or_append_left xs ys d i (omega (arith, less, inside)), get_or_append_left xs ys d j inside) at
-      (all i j d less (omega (arith, inside, length-append xs ys)))
-
   pairs_back : AllPairs R (xs ++ ys) → AllPairs R ys
   pairs_back all i j d less inside =
       rw (get_or-append-add xs ys i d, get_or-append-add xs ys j d) at
@@ -73,24 +68,24 @@ module _ {A : Type 0} (name_of : A → OpName) (F : A → Type 0) where
 pairs_drop : (names : List OpName) (a : ℕ) → AllPairs IsBefore names → AllPairs IsBefore (drop a names)
 pairs_drop names a in_order = pairs_back IsBefore (take a names) (drop a names) (subst (AllPairs IsBefore) (sym (take-append-drop a names)) in_order)
 
-module _ {A : Type 0} (name_of : A → OpName) (F : A → Type 0) (list_of : Piece → List A) (names : List OpName) (in_order : AllPairs IsBefore names) where
+module _ {A : Type 0} (name_of : A → OpName) (F : A → Type 0) (list_of : Piece → List A) (names : List OpName) where
   -- the faults of the pieces from a on
-  joined_from : (i a b : ℕ) (ps : List Piece) → IsCut i a ps b → b ≡ length names → Each (λ p. ListsAmong name_of F (names_of names p) (list_of p)) ps
+  joined_from : AllPairs IsBefore names → (i a b : ℕ) (ps : List Piece) → IsCut i a ps b → b ≡ length names → Each (λ p. ListsAmong name_of F (names_of names p) (list_of p)) ps
       → ListsAmong name_of F (drop a names) (flat_map list_of ps)
-  joined_from i a b [] cut end lists =
+  joined_from in_order i a b [] cut end lists =
       subst (λ ns. ListsAmong name_of F ns []) (sym (drop_all a names (omega (arith, cut, end)))) (among_none name_of F)
-  joined_from i a b (p ∷ ps) cut end lists =
+  joined_from in_order i a b (p ∷ ps) cut end lists =
       let split : drop a names ≡ slice_range names a (a + p.len) ++ drop (a + p.len) names = drop_split names a (a + p.len) (omega arith) in
       let here : ListsAmong name_of F (slice_range names a (a + p.len)) (list_of p) =
       subst (λ k. ListsAmong name_of F (slice_range names k (k + p.len)) (list_of p)) cut.1 (lists zero p (omega arith)) in
-      let rest = joined_from (i + 1) (a + p.len) b ps cut.2 end (λ k d below. lists (suc k) d (omega (arith, below))) in
+      let rest = joined_from in_order (i + 1) (a + p.len) b ps cut.2 end (λ k d below. lists (suc k) d (omega (arith, below))) in
       subst (λ ns. ListsAmong name_of F ns (list_of p ++ flat_map list_of ps)) (sym split)
       (among_append name_of F (slice_range names a (a + p.len)) (drop (a + p.len) names) (list_of p) (flat_map list_of ps)
       (subst (AllPairs IsBefore) split (pairs_drop names a in_order)) here rest)
 
   -- what the pieces found together is all faults
-  pub joined_all : (ps : List Piece) (b : ℕ) (xs : List A) → IsCut 0 0 ps b → b ≡ length names → Each (λ p. p.state ≡ Fine) ps
+  pub joined_all : (ps : List Piece) (xs : List A) → ArePieces names ps → Each (λ p. p.state ≡ Fine) ps
       → Each (λ p. p.state ≡ Fine → ListsAmong name_of F (names_of names p) (list_of p)) ps → xs ≡ flat_map list_of ps → ListsAmong name_of F names xs
-  joined_all ps b xs cut end fine lists are =
+  joined_all ps xs pieces fine lists are =
       subst (ListsAmong name_of F names) (sym are)
-      (joined_from 0 0 b ps cut end (λ k d below. lists k d below (fine k d below)))
+      (joined_from pieces.in_order 0 0 (length names) ps pieces.cut refl (λ k d below. lists k d below (fine k d below)))

@@ -1,5 +1,7 @@
 -- What workers find in their pieces.
 use Rattle.cops_types.specs.Faults.{HasNoSource, IsNotAbove, IsStale}
+use Rattle.cops_types.specs.Histories.{Sessions}
+use Rattle.cops_types.specs.Verdicts.{AllAbove, AllHaveSources}
 use Rattle.cops_types.specs.VersionOrder.{IsDoubled}
 use Rattle.cops_audit.specs.Names.{ListsAmong}
 use Rattle.cops_audit.specs.Summarized.{Summarized}
@@ -15,6 +17,10 @@ HasDoubled puts p = ListsAmong (λ n. n) (IsDoubled puts.sessions) (names_of put
 pub record IsSearched (puts : Sorted) (p : Piece) : Type 0 where
   pub sourceless : ListsAmong (λ n. n) (HasNoSource puts.sessions) (names_of puts.names p) p.names.items
   pub not_above : ListsAmong (λ f. f.op) (λ f. IsNotAbove puts.sessions f.op f.earlier) (names_of puts.names p) p.not_above.items
+
+-- no faults of the classes before the stale gets
+abbrev pub HasNoEarlierFaults : Sessions → Type 0
+HasNoEarlierFaults h = AllHaveSources h × AllAbove h
 
 -- the piece lists its stale gets
 abbrev pub HasStale : Summarized → Piece → Type 0

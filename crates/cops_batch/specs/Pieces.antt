@@ -1,8 +1,11 @@
 -- The operations in pieces, each with what its worker found.
-use Rattle.std.specs.Prelude.{◌≡◌, ◌+◌, ◌<◌, ◌≤◌, ◌⊎◌, ◌/◌, ◌%◌, nat_lt, if◌then◌else◌, ℕ, List, [], ◌∷◌, length, slice_index_or, slice_range}
+use Rattle.std.specs.Prelude.{◌≡◌, ◌+◌, ◌<◌, ◌≤◌, ◌⊎◌, ◌/◌, ◌%◌, ◌^◌, ⊤, nat_lt, if◌then◌else◌, ℕ, List, [], ◌∷◌, length, All, AllPairs, slice_index_or, slice_range}
+use Rattle.cops_types.specs.Faults.{IsBefore}
 use Rattle.cops_types.specs.declared.gate.Point.{Point}
 use Rattle.cops_types.specs.declared.gate.Point.TheVariants.{PieceStart, PieceDone}
 use Rattle.cops_types.specs.declared.op.OpName.{OpName}
+use Rattle.cops_batch.specs.declared.fault.BatchFault.{BatchFault}
+use Rattle.cops_batch.specs.declared.fault.BatchFault.TheVariants as fault
 use Rattle.cops_batch.specs.declared.pieces.Piece.{Piece}
 use Rattle.cops_batch.specs.declared.pieces.PieceState.TheVariants.{Held}
 
@@ -27,9 +30,13 @@ IsCut i a (p ∷ ps) b = (p.number ≡ i) × (p.start ≡ a) × IsCut (i + 1) (a
 abbrev pub LiesWithin : ℕ → Piece → Type 0
 LiesWithin n p = p.start + p.len ≤ n
 
--- the piece is within n operations, and where its worker was held, the gate may hold it
-abbrev pub IsReady : ℕ → (Point → Type 0) → Piece → Type 0
-IsReady n may_hold p = LiesWithin n p × IsStoppedByGate may_hold p
+-- 1 to 255 pieces of names that are in order
+pub record ArePieces (names : List OpName) (ps : List Piece) : Type 0 where
+  pub in_order : AllPairs IsBefore names
+  pub cut : IsCut 0 0 ps (length names)
+  pub within : All (LiesWithin (length names)) ps
+  pub some : 0 < length ps
+  pub few : length ps < 2 ^ 8
 
 -- the length of a piece when `count` operations are cut for `workers` workers: the quotient, and one more for the first pieces, as many as the
 -- remainder
@@ -44,6 +51,13 @@ SamePlace p q = (q.number ≡ p.number) × (q.start ≡ p.start) × (q.len ≡ p
 abbrev pub Each : (Piece → Type 0) → List Piece → Type 0
 Each P ps = (k : ℕ) (d : Piece) → k < length ps → P (slice_index_or ps k d)
 
--- each piece has the same number, start and length
-abbrev pub SamePlaces : List Piece → List Piece → Type 0
-SamePlaces ps qs = (k : ℕ) (d : Piece) → k < length ps → SamePlace (slice_index_or ps k d) (slice_index_or qs k d)
+-- as many pieces, each with the same number, start and length
+pub record SamePlaces (ps qs : List Piece) : Type 0 where
+  pub len : length qs ≡ length ps
+  pub each : (k : ℕ) (d : Piece) → k < length ps → SamePlace (slice_index_or ps k d) (slice_index_or qs k d)
+
+-- why there may be no verdict by n pieces: out of memory, or the gate held a worker, as it may for one of the pieces
+abbrev pub MayFail : (Point → Type 0) → ℕ → BatchFault → Type 0
+MayFail may_hold n fault.Memory = ⊤
+MayFail may_hold n fault.BadWorkers = ⊥
+MayFail may_hold n fault.Held = (i : ℕ) × (i < n) × MayHoldPiece may_hold i

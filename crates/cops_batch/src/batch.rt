@@ -1,20 +1,22 @@
-ghost use Rattle.std.specs.Prelude.{◌≡◌, ◌≢◌, ◌<◌, ◌⊎◌, ◌↔◌, ℕ, IfOk, IfErr, IsErrOf, length, All};
+ghost use Rattle.std.specs.Prelude.{◌≡◌, ◌<◌, ◌⊎◌, ◌↔◌, ℕ, IfOk, IfErr, IsErrOf, List, length};
+ghost use Rattle.cops_types.specs.declared.op.OpName.{OpName};
 ghost use Rattle.cops_types.specs.Convergence.{IsCausallyConvergent};
 ghost use Rattle.cops_types.specs.declared.limits.TheConstants.{MAX_WORKERS};
-ghost use Rattle.cops_types.specs.Verdicts.{AllAbove, AllHaveSources};
 ghost use Rattle.cops_audit.specs.Tables.{Repeats, Rises};
 ghost use Rattle.cops_audit.specs.Verdicts.{Accepts, ConvergesByVersions, IsVerdict};
-ghost use Rattle.cops_batch.specs.Pieces.{IsCut, IsStoppedByGate, IsReady, LiesWithin, MayHoldPiece};
+ghost use Rattle.cops_batch.specs.Found.{HasDoubled, HasNoEarlierFaults, HasStale, IsSearched};
+ghost use Rattle.cops_batch.specs.Pieces.{ArePieces, Each, IsStoppedByGate, LiesWithin, MayFail, MayHoldPiece, SamePlace};
+ghost use Rattle.cops_batch.specs.declared.pieces.PieceState.TheVariants.{Fine};
 ghost use Rattle.cops_batch.specs.declared.fault.BatchFault.TheVariants.{BadWorkers, Held};
 
 use crate::fault::BatchFault;
 use crate::joining::{finished, joined_before_stale, joined_names, joined_stale};
-use crate::pieces::{Piece, cut};
-use crate::rounds::{round_before_stale, round_of_doubled, round_of_stale, round_without_search};
+use crate::pieces::{Piece, cut, leave, look_before_stale, look_for_doubled, look_for_stale};
 use cops_audit::{Puts, Tables, Verdict, verdict_on_convergence};
 use cops_types::{Gate, History, MAX_WORKERS};
 use std::alloc::Global;
 use std::sync::Wait;
+use std::thread;
 use std::thread::Threads;
 
 /// The verdict on a history, computed by `workers` workers, 1 to 64: it is the one of `judge`. The operations in order
@@ -55,8 +57,7 @@ fn judge_in_pieces<R: Threads + Wait + Sync, G: Gate>(
 ) -> Result<Verdict, BatchFault>
     requires { 0 < workers }
     ensures ok { IfOk result (IsVerdict history.now.sessions) }
-    ensures bad { IfErr result (λ e. e ≢ BadWorkers) }
-    ensures held { IsErrOf result Held → (i : ℕ) × (i < workers) × MayHoldPiece (G.may_hold gate.now) i }
+    ensures err { IfErr result (MayFail (G.may_hold gate.now) workers) }
 {
     let Ok(puts) = Puts::new(alloc, history) else {
         return Err(BatchFault::Memory);
@@ -67,7 +68,7 @@ fn judge_in_pieces<R: Threads + Wait + Sync, G: Gate>(
     if !puts.is_rising() {
         return judge_doubled(rt, alloc, &puts, gate, pieces.as_mut_slice());
     }
-    judge_gets(rt, alloc, puts, workers, gate, pieces.as_mut_slice())
+    judge_gets(rt, alloc, puts, gate, pieces.as_mut_slice())
 }
 
 /// The verdict where two puts have the same version.
@@ -79,15 +80,23 @@ fn judge_doubled<R: Threads + Wait + Sync, G: Gate>(
     pieces: &mut [Piece],
 ) -> Result<Verdict, BatchFault>
     requires repeats { Repeats puts.now.table }
-    requires cut { IsCut 0 0 pieces.old (length puts.now.names) }
-    requires within { All (LiesWithin (length puts.now.names)) pieces.old }
-    requires some { 0 < length pieces.old }
+    requires pieces { ArePieces puts.now.names pieces.old }
     ensures ok { IfOk result (IsVerdict puts.now.sessions) }
-    ensures bad { IfErr result (λ e. e ≢ BadWorkers) }
-    ensures held { IsErrOf result Held → (i : ℕ) × (i < length pieces.old) × MayHoldPiece (G.may_hold gate.now) i }
+    ensures err { IfErr result (MayFail (G.may_hold gate.now) (length pieces.old)) }
 {
-    round_of_doubled(rt, alloc, puts, gate, pieces);
-    finished(gate, pieces, puts.count())?;
+    let threads = pieces.len();
+    thread::for_each_mut(
+        rt,
+        pieces,
+        threads,
+        &|_, piece: &mut Piece|
+            requires { LiesWithin (length puts.now.names) piece.now }
+            ensures place { SamePlace piece.entry.now piece.exit.now }
+            ensures held { IsStoppedByGate (G.may_hold gate.entry.now) piece.exit.now }
+            ensures found { piece.exit.now.state ≡ Fine → HasDoubled puts.entry.now piece.exit.now }
+        { look_for_doubled(rt, alloc, puts, gate, piece) },
+    );
+    finished(gate, pieces)?;
     let Ok(faults) = joined_names(alloc, pieces) else {
         return Err(BatchFault::Memory);
     };
@@ -100,48 +109,63 @@ fn judge_gets<R: Threads + Wait + Sync, G: Gate>(
     rt: &R,
     alloc: Global,
     puts: Puts,
-    workers: u8,
     gate: &G,
     pieces: &mut [Piece],
 ) -> Result<Verdict, BatchFault>
     requires rising { Rises puts.table }
-    requires cut { IsCut 0 0 pieces.old (length puts.names) }
-    requires within { All (LiesWithin (length puts.names)) pieces.old }
-    requires some { 0 < length pieces.old }
+    requires pieces { ArePieces puts.names pieces.old }
     ensures ok { IfOk result (IsVerdict puts.entry.sessions) }
-    ensures bad { IfErr result (λ e. e ≢ BadWorkers) }
-    ensures held { IsErrOf result Held → (i : ℕ) × (i < length pieces.old) × MayHoldPiece (G.may_hold gate.now) i }
+    ensures err { IfErr result (MayFail (G.may_hold gate.now) (length pieces.old)) }
 {
-    round_before_stale(rt, alloc, &puts, gate, pieces);
-    let count = puts.count();
+    let threads = pieces.len();
+    thread::for_each_mut(
+        rt,
+        pieces,
+        threads,
+        &|_, piece: &mut Piece|
+            requires rising { Rises puts.table }
+            requires within { LiesWithin (length puts.names) piece.now }
+            ensures place { SamePlace piece.entry.now piece.exit.now }
+            ensures held { IsStoppedByGate (G.may_hold gate.entry.now) piece.exit.now }
+            ensures found { piece.exit.now.state ≡ Fine → IsSearched puts.entry piece.exit.now }
+        { look_before_stale(rt, alloc, &puts, gate, piece) },
+    );
     match joined_before_stale(alloc, &puts, gate, pieces) {
-        Ok(None) => judge_stale(rt, alloc, puts, workers, gate, pieces),
+        Ok(None) => judge_stale(rt, alloc, puts, gate, pieces),
         Ok(Some(verdict)) => {
-            last_round(rt, gate, pieces, count)?;
+            last_round(rt, gate, pieces)?;
             Ok(verdict)
         }
         Err(fault) => {
-            last_round(rt, gate, pieces, count)?;
+            last_round(rt, gate, pieces)?;
             Err(fault)
         }
     }
 }
 
-/// The second round where no stale gets are looked for, and whether any worker failed up to its end.
+/// Runs the second round where no stale gets are looked for, each piece in a thread of its own where one can be
+/// created, and says whether any worker failed up to its end.
 fn last_round<R: Threads + Wait + Sync, G: Gate>(
     rt: &R,
     gate: &G,
     pieces: &mut [Piece],
-    count: usize,
 ) -> Result<(), BatchFault>
-    requires cut { IsCut 0 0 pieces.old count }
-    requires held { All (IsStoppedByGate (G.may_hold gate.now)) pieces.old }
-    requires some { 0 < length pieces.old }
-    ensures bad { IfErr result (λ e. e ≢ BadWorkers) }
-    ensures held { IsErrOf result Held → (i : ℕ) × (i < length pieces.old) × MayHoldPiece (G.may_hold gate.now) i }
+    requires pieces { (names : List OpName) × ArePieces names pieces.old }
+    requires held { Each (IsStoppedByGate (G.may_hold gate.now)) pieces.old }
+    ensures err { IfErr result (MayFail (G.may_hold gate.now) (length pieces.old)) }
 {
-    round_without_search(rt, gate, pieces);
-    finished(gate, pieces, count)
+    let threads = pieces.len();
+    thread::for_each_mut(
+        rt,
+        pieces,
+        threads,
+        &|_, piece: &mut Piece|
+            requires { IsStoppedByGate (G.may_hold gate.now) piece.now }
+            ensures place { SamePlace piece.entry.now piece.exit.now }
+            ensures held { IsStoppedByGate (G.may_hold gate.entry.now) piece.exit.now }
+        { leave(rt, gate, piece) },
+    );
+    finished(gate, pieces)
 }
 
 /// The verdict where the classes before the stale gets are empty. The tables in which stale gets are looked up are
@@ -150,24 +174,18 @@ fn judge_stale<R: Threads + Wait + Sync, G: Gate>(
     rt: &R,
     alloc: Global,
     puts: Puts,
-    workers: u8,
     gate: &G,
     pieces: &mut [Piece],
 ) -> Result<Verdict, BatchFault>
     requires rising { Rises puts.table }
-    requires sources { AllHaveSources puts.sessions }
-    requires above { AllAbove puts.sessions }
-    requires cut { IsCut 0 0 pieces.old (length puts.names) }
-    requires ready { All (IsReady (length puts.names) (G.may_hold gate.now)) pieces.old }
-    requires held { All (IsStoppedByGate (G.may_hold gate.now)) pieces.old }
-    requires some { 0 < length pieces.old }
+    requires clean { HasNoEarlierFaults puts.sessions }
+    requires pieces { ArePieces puts.names pieces.old }
+    requires held { Each (IsStoppedByGate (G.may_hold gate.now)) pieces.old }
     ensures ok { IfOk result (IsVerdict puts.entry.sessions) }
-    ensures bad { IfErr result (λ e. e ≢ BadWorkers) }
-    ensures held { IsErrOf result Held → (i : ℕ) × (i < length pieces.old) × MayHoldPiece (G.may_hold gate.now) i }
+    ensures err { IfErr result (MayFail (G.may_hold gate.now) (length pieces.old)) }
 {
-    let count = puts.count();
-    let Ok(tables) = Tables::parallel(rt, alloc, puts, workers) else {
-        last_round(rt, gate, pieces, count)?;
+    let Ok(tables) = Tables::parallel(rt, alloc, puts, pieces.len() as u8) else {
+        last_round(rt, gate, pieces)?;
         return Err(BatchFault::Memory);
     };
     judge_tables(rt, alloc, &tables, gate, pieces)
@@ -181,17 +199,27 @@ fn judge_tables<R: Threads + Wait + Sync, G: Gate>(
     gate: &G,
     pieces: &mut [Piece],
 ) -> Result<Verdict, BatchFault>
-    requires sources { AllHaveSources tables.now.sessions }
-    requires above { AllAbove tables.now.sessions }
-    requires cut { IsCut 0 0 pieces.old (length tables.now.names) }
-    requires ready { All (IsReady (length tables.now.names) (G.may_hold gate.now)) pieces.old }
-    requires some { 0 < length pieces.old }
+    requires clean { HasNoEarlierFaults tables.now.sessions }
+    requires pieces { ArePieces tables.now.names pieces.old }
+    requires held { Each (IsStoppedByGate (G.may_hold gate.now)) pieces.old }
     ensures ok { IfOk result (IsVerdict tables.now.sessions) }
-    ensures bad { IfErr result (λ e. e ≢ BadWorkers) }
-    ensures held { IsErrOf result Held → (i : ℕ) × (i < length pieces.old) × MayHoldPiece (G.may_hold gate.now) i }
+    ensures err { IfErr result (MayFail (G.may_hold gate.now) (length pieces.old)) }
 {
-    round_of_stale(rt, alloc, tables, gate, pieces);
-    finished(gate, pieces, tables.count())?;
+    let threads = pieces.len();
+    thread::for_each_mut(
+        rt,
+        pieces,
+        threads,
+        &|_, piece: &mut Piece|
+            requires clean { HasNoEarlierFaults tables.now.sessions }
+            requires within { LiesWithin (length tables.now.names) piece.now }
+            requires held { IsStoppedByGate (G.may_hold gate.now) piece.now }
+            ensures place { SamePlace piece.entry.now piece.exit.now }
+            ensures held { IsStoppedByGate (G.may_hold gate.entry.now) piece.exit.now }
+            ensures found { piece.exit.now.state ≡ Fine → HasStale tables.entry.now piece.exit.now }
+        { look_for_stale(rt, alloc, tables, gate, piece) },
+    );
+    finished(gate, pieces)?;
     let Ok(stale) = joined_stale(alloc, pieces) else {
         return Err(BatchFault::Memory);
     };

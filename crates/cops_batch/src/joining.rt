@@ -1,11 +1,10 @@
-ghost use Rattle.std.specs.Prelude.{◌≡◌, ◌≢◌, ◌<◌, ℕ, IfOk, IfErr, IfSome, IfNone, IsErrOf, OnOk, length, flat_map};
-ghost use Rattle.cops_types.specs.Verdicts.{AllAbove, AllHaveSources};
+ghost use Rattle.std.specs.Prelude.{◌≡◌, List, IfOk, IfErr, IfSome, IfNone, OnOk, length, flat_map};
+ghost use Rattle.cops_types.specs.declared.op.OpName.{OpName};
 ghost use Rattle.cops_audit.specs.Tables.{Rises};
 ghost use Rattle.cops_audit.specs.Verdicts.{IsVerdict};
-ghost use Rattle.cops_batch.specs.Pieces.{Each, IsCut, IsStoppedByGate, MayHoldPiece};
-ghost use Rattle.cops_batch.specs.Found.{IsSearched};
+ghost use Rattle.cops_batch.specs.Pieces.{ArePieces, Each, IsStoppedByGate, MayFail};
+ghost use Rattle.cops_batch.specs.Found.{HasNoEarlierFaults, IsSearched};
 ghost use Rattle.cops_batch.specs.declared.pieces.PieceState.TheVariants.{Fine};
-ghost use Rattle.cops_batch.specs.declared.fault.BatchFault.TheVariants.{BadWorkers, Held};
 
 use crate::fault::BatchFault;
 use crate::pieces::{Piece, PieceState};
@@ -14,12 +13,11 @@ use cops_types::{Gate, OpName};
 use std::alloc::{AllocError, Global};
 
 /// Whether no worker failed. `Held` is reported before `Memory`.
-pub fn finished<G: Gate>(gate: &G, pieces: &[Piece], count: usize) -> Result<(), BatchFault>
-    requires cut { IsCut 0 0 pieces.now count }
+pub fn finished<G: Gate>(gate: &G, pieces: &[Piece]) -> Result<(), BatchFault>
+    requires pieces { (names : List OpName) × ArePieces names pieces.now }
     requires held { Each (IsStoppedByGate (G.may_hold gate.now)) pieces.now }
     ensures fine { OnOk result (Each (λ p. p.state ≡ Fine) pieces.now) }
-    ensures bad { IfErr result (λ e. e ≢ BadWorkers) }
-    ensures held { IsErrOf result Held → (i : ℕ) × (i < length pieces.now) × MayHoldPiece (G.may_hold gate.now) i }
+    ensures err { IfErr result (MayFail (G.may_hold gate.now) (length pieces.now)) }
 {
     for piece in pieces {
         if let PieceState::Held = piece.state {
@@ -77,16 +75,14 @@ pub fn joined_before_stale<G: Gate>(
     pieces: &[Piece],
 ) -> Result<Option<Verdict>, BatchFault>
     requires rising { Rises puts.now.table }
-    requires cut { IsCut 0 0 pieces.now (length puts.now.names) }
+    requires pieces { ArePieces puts.now.names pieces.now }
     requires held { Each (IsStoppedByGate (G.may_hold gate.now)) pieces.now }
     requires found { Each (λ p. p.state ≡ Fine → IsSearched puts.now p) pieces.now }
     ensures refused { IfOk result (λ r. IfSome r (IsVerdict puts.now.sessions)) }
-    ensures sources { IfOk result (λ r. IfNone r (AllHaveSources puts.now.sessions)) }
-    ensures above { IfOk result (λ r. IfNone r (AllAbove puts.now.sessions)) }
-    ensures bad { IfErr result (λ e. e ≢ BadWorkers) }
-    ensures held { IsErrOf result Held → (i : ℕ) × (i < length pieces.now) × MayHoldPiece (G.may_hold gate.now) i }
+    ensures clean { IfOk result (λ r. IfNone r (HasNoEarlierFaults puts.now.sessions)) }
+    ensures err { IfErr result (MayFail (G.may_hold gate.now) (length pieces.now)) }
 {
-    finished(gate, pieces, puts.count())?;
+    finished(gate, pieces)?;
     let Ok(sourceless) = joined_names(alloc, pieces) else {
         return Err(BatchFault::Memory);
     };

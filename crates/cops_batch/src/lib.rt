@@ -7,7 +7,6 @@ mod batch;
 mod fault;
 mod joining;
 mod pieces;
-mod rounds;
 
 pub use batch::judge_with;
 pub use fault::BatchFault;

@@ -1,8 +1,7 @@
 ghost use Rattle.std.specs.Prelude.{◌≡◌, ◌<◌, ℕ, IfOk, OnOk, length, vec_len, All, slice_index_or};
-ghost use Rattle.cops_types.specs.Verdicts.{AllAbove, AllHaveSources};
 ghost use Rattle.cops_audit.specs.Tables.{Rises};
-ghost use Rattle.cops_batch.specs.Found.{HasDoubled, HasStale, IsSearched};
-ghost use Rattle.cops_batch.specs.Pieces.{IsCut, IsStoppedByGate, IsReady, LiesWithin, SamePlace, piece_len};
+ghost use Rattle.cops_batch.specs.Found.{HasDoubled, HasNoEarlierFaults, HasStale, IsSearched};
+ghost use Rattle.cops_batch.specs.Pieces.{IsCut, IsStoppedByGate, LiesWithin, SamePlace, piece_len};
 ghost use Rattle.cops_batch.specs.declared.pieces.Piece.{Piece};
 ghost use Rattle.cops_batch.specs.declared.pieces.PieceState.TheVariants.{Fine};
 
@@ -91,16 +90,6 @@ pub fn leave<R: Wait, G: Gate>(rt: &R, gate: &G, piece: &mut Piece)
     }
 }
 
-/// Searches a piece for the puts that have the version of another put.
-fn search_for_doubled(alloc: Global, puts: &Puts, piece: &mut Piece) -> Result<(), AllocError>
-    requires { LiesWithin (length puts.now.names) piece.old }
-    ensures place { SamePlace piece.old piece.new }
-    ensures found { OnOk result (HasDoubled puts.now piece.new) }
-{
-    piece.names = puts.doubled(alloc, piece.start, piece.len)?;
-    Ok(())
-}
-
 /// A worker's only search where two puts have the same version.
 pub fn look_for_doubled<R: Wait, G: Gate>(
     rt: &R,
@@ -118,8 +107,11 @@ pub fn look_for_doubled<R: Wait, G: Gate>(
         piece.state = PieceState::Held;
         return;
     }
-    match search_for_doubled(alloc, puts, piece) {
-        Ok(()) => piece.state = PieceState::Fine,
+    match puts.doubled(alloc, piece.start, piece.len) {
+        Ok(names) => {
+            piece.names = names;
+            piece.state = PieceState::Fine;
+        }
         Err(_) => piece.state = PieceState::Memory,
     }
     leave(rt, gate, piece);
@@ -163,8 +155,7 @@ pub fn look_before_stale<R: Wait, G: Gate>(
 
 /// Searches a piece for its stale gets.
 fn search_for_stale(alloc: Global, tables: &Tables, piece: &mut Piece) -> Result<(), AllocError>
-    requires sources { AllHaveSources tables.now.sessions }
-    requires above { AllAbove tables.now.sessions }
+    requires clean { HasNoEarlierFaults tables.now.sessions }
     requires within { LiesWithin (length tables.now.names) piece.old }
     ensures place { SamePlace piece.old piece.new }
     ensures found { OnOk result (HasStale tables.now piece.new) }
@@ -181,9 +172,9 @@ pub fn look_for_stale<R: Wait, G: Gate>(
     gate: &G,
     piece: &mut Piece,
 )
-    requires sources { AllHaveSources tables.now.sessions }
-    requires above { AllAbove tables.now.sessions }
-    requires ready { IsReady (length tables.now.names) (G.may_hold gate.now) piece.old }
+    requires clean { HasNoEarlierFaults tables.now.sessions }
+    requires within { LiesWithin (length tables.now.names) piece.old }
+    requires held { IsStoppedByGate (G.may_hold gate.now) piece.old }
     ensures place { SamePlace piece.old piece.new }
     ensures held { IsStoppedByGate (G.may_hold gate.now) piece.new }
     ensures found { piece.new.state ≡ Fine → HasStale tables.now piece.new }

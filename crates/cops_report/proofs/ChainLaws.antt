@@ -1,29 +1,17 @@
 -- Laws of chains: there is one that is first, and a chain is evidence of the past.
-use Rattle.std.proofs.Common.{◌≡◌, ◌≤◌, List, [], ◌∷◌, length, refl, sym, ap, ap₂, subst, arith, inl, inr}
+use Rattle.std.proofs.Common.{◌≡◌, ◌≤◌, List, [], ◌∷◌, length, refl, sym, ap₂, subst, arith, inl, inr}
 use Rattle.cops_types.specs.declared.op.OpName.{OpName}
-use Rattle.cops_types.specs.Faults.{IsBefore}
 use Rattle.cops_types.specs.Histories.{Sessions}
 use Rattle.cops_types.specs.Past.{Past, step, more}
 use Rattle.cops_report.specs.Chains.{ComesFirst, IsChain, IsFirstChain, LeadsTo}
-
-not_itself : (a b : OpName) → IsBefore a b → b ≡ a → ⊥
-not_itself a b (inl less) same = omega (arith, ap (λ (x : OpName). x.client) same)
-not_itself a b (inr less) same = omega (arith, less.1, ap (λ (x : OpName). x.index) same)
-
-not_both : (a b : OpName) → IsBefore a b → IsBefore b a → ⊥
-not_both a b (inl p) (inl q) = omega arith
-not_both a b (inl p) (inr q) = omega (arith, q.0)
-not_both a b (inr p) (inl q) = omega (arith, p.0)
-not_both a b (inr p) (inr q) = omega (arith, p.1, q.1)
 
 -- of two lists one comes first
 both_first : (xs ys : List OpName) → length xs ≡ length ys → ComesFirst xs ys → ComesFirst ys xs → xs ≡ ys
 both_first [] [] e p q = refl
 both_first [] (b ∷ ys) e p q = absurd (omega arith)
 both_first (a ∷ xs) [] e p q = absurd (omega arith)
-both_first (a ∷ xs) (b ∷ ys) e (inl p) (inl q) = absurd (not_both a b p q)
-both_first (a ∷ xs) (b ∷ ys) e (inl p) (inr q) = absurd (not_itself a b p q.0)
-both_first (a ∷ xs) (b ∷ ys) e (inr p) (inl q) = absurd (not_itself b a q p.0)
+both_first (a ∷ xs) (b ∷ ys) e (inl p) q = absurd (grind arith)
+both_first (a ∷ xs) (b ∷ ys) e (inr p) (inl q) = absurd (grind arith)
 both_first (a ∷ xs) (b ∷ ys) e (inr p) (inr q) = ap₂ (λ (x : OpName) (xs : List OpName). x ∷ xs) p.0 (both_first xs ys (omega arith) p.1 q.1)
 
 pub one_first : (h : Sessions) (from to : OpName) (a b : List OpName) → IsFirstChain h from to a → IsFirstChain h from to b → a ≡ b

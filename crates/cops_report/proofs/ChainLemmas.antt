@@ -1,6 +1,6 @@
 -- What a finished search says about chains.
-use Rattle.std.proofs.Common.{◌≡◌, ◌∙◌, ◌+◌, ◌<◌, ◌≤◌, ℕ, List, [], ◌∷◌, ◌++◌, length, Some, None, refl, sym, ap, subst, arith, inl, inr, append_assoc}
-use Rattle.std.proofs.lemmas.Bool.{cases_eq, cases_lt}
+use Rattle.std.proofs.Common.{◌≡◌, ◌≢◌, ◌∙◌, ◌+◌, ◌<◌, ◌≤◌, ℕ, List, [], ◌∷◌, ◌++◌, length, Some, None, refl, sym, ap, subst, arith, inl, inr, append_assoc}
+use Rattle.std.proofs.lemmas.Bool.{cases_lt}
 use Rattle.std.proofs.lemmas.List.{append-nil}
 use Rattle.cops_types.specs.declared.op.OpName.{OpName}
 use Rattle.cops_types.specs.Histories.{Sessions, IsNamed}
@@ -36,13 +36,10 @@ reaches_all : (h : Sessions) (to : OpName) (t : Table) (d : ℕ) → IsSearch h 
 reaches_all h to t d i fresh empty rest a leads = (let r = go rest a leads in (r.1.0, r.1.1))
   where
     low : (n : OpName) (k : ℕ) → HasSteps t n k → k < d
-    low n k has = elim (cases_lt k d) [
-      | inl lt ↦ lt
-      | inr ge ↦ elim (cases_eq k d) [
-        | inl same ↦ absurd (empty n (subst (HasSteps t n) same has))
-        | inr other ↦ (let top : k ≡ d + 1 = omega (arith, i.bound n k has) in absurd (fresh n (subst (HasSteps t n) top has)))
-      ]
-    ]
+    low n k has =
+        let below : k ≢ d = λ e. empty n (subst (HasSteps t n) e has) in
+        let top : k ≢ d + 1 = λ e. fresh n (subst (HasSteps t n) e has) in
+        omega (arith, i.bound n k has)
 
     go : (rest : List OpName) (a : OpName) → LeadsTo h to a rest → (j : ℕ) × HasSteps t a j
     go [] a leads = (0, subst (λ (x : OpName). HasSteps t x 0) (sym leads) i.root)
@@ -107,10 +104,9 @@ first_chain h from to t found named (n ∷ rest) walk = record {
     leads = follows_leads h to t found.depth i rest n walk.1
 
     near : length rest ≤ found.depth
-    near = elim (cases_eq (length rest) (found.depth + 1)) [
-      | inl top ↦ absurd (found.fresh n (subst (HasSteps t n) top leads.1))
-      | inr other ↦ omega (arith, i.bound n (length rest) leads.1)
-    ]
+    near =
+        let top : length rest ≢ found.depth + 1 = λ e. found.fresh n (subst (HasSteps t n) e leads.1) in
+        omega (arith, i.bound n (length rest) leads.1)
 
     at_n : (m : OpName) (others : List OpName) → m ≡ from → LeadsTo h to m others → LeadsTo h to n others
     at_n m others is l = subst (λ (x : OpName). LeadsTo h to x others) (is ∙ sym walk.0) l
@@ -140,9 +136,6 @@ no_chain h from to t found none (n ∷ rest) c =
     ]
 
 -- ---- walking
-
-pub walk_start : (t : Table) (to from : OpName) (rest : List OpName) → Follows t to from rest → IsWalk t to from ((from ∷ []) ++ rest)
-walk_start t to from rest f = (refl, f)
 
 -- a chain is of names of the history
 pub chain_names : (h : Sessions) (from to : OpName) (names : List OpName) → IsChain h from to names → IsNamed h from × IsNamed h to

@@ -1,5 +1,5 @@
 -- Marks that are set one by one.
-use Rattle.std.proofs.Common.{◌≡◌, ◌∙◌, ◌⊎◌, List, [], ◌∷◌, ◌++◌, Option, Some, None, refl, sym, ap, subst, arith, inl, inr}
+use Rattle.std.proofs.Common.{◌≡◌, ◌∙◌, List, [], ◌∷◌, ◌++◌, Option, Some, None, refl, sym, ap, subst, arith, inl, inr}
 use Rattle.std.specs.Prelude.{Contains}
 use Rattle.std.proofs.lemmas.List.{length_push}
 use Rattle.std.proofs.lemmas.List.Elements.{Contains-append_left, Contains-push, Contains-push_cases}
@@ -7,7 +7,7 @@ use Rattle.cops_types.specs.declared.op.OpName.{OpName}
 use Rattle.cops_types.specs.Histories.{Sessions}
 use Rattle.cops_types.specs.Past.{Step}
 use Rattle.cops_report.specs.declared.marks.Mark.{Mark}
-use Rattle.cops_report.specs.Marks.{Table, Gains, HasPlace, IsMarked, mark_at, with_mark}
+use Rattle.cops_report.specs.Marks.{Table, Gains, HasPlace, mark_at, with_mark}
 use Rattle.cops_audit.proofs.Differing.{name_cases}
 use Rattle.cops_report.proofs.Tables.{mark_at-other, mark_at-same, open-with_mark, place-with_mark}
 
@@ -21,16 +21,13 @@ gains_none h mark t names = record {
   places = λ n. (λ p. p, λ p. p);
 }
 
-pub marked_or_not : (t : Table) (n : OpName) → IsMarked t n ⊎ (mark_at t n ≡ None)
-marked_or_not t n = go (mark_at t n) refl
-  where
-    go : (o : Option Mark) → mark_at t n ≡ o → IsMarked t n ⊎ (mark_at t n ≡ None)
-    go None e = inr e
-    go (Some m) e = inl (m, e)
-
 -- what has no mark later had none before
 still_none : (h : Sessions) (mark : Mark) (s t : Table) (names more : List OpName) (n : OpName) → Gains h mark s t names more → mark_at t n ≡ None → mark_at s n ≡ None
-still_none h mark s t names more n g none = elim (marked_or_not s n) [ inl m ↦ (let k = g.kept n m.0 m.1 in cc) | inr e ↦ e ]
+still_none h mark s t names more n g none = go (mark_at s n) refl
+  where
+    go : (o : Option Mark) → mark_at s n ≡ o → mark_at s n ≡ None
+    go None e = e
+    go (Some m) e = (let k = g.kept n m e in absurd cc)
 
 pub gains_more : (h : Sessions) (mark : Mark) (s t u : Table) (names more most : List OpName) → Gains h mark s t names more → Gains h mark t u more most → Gains h mark s u names most
 gains_more h mark s t u names more most a b = record {

@@ -71,9 +71,7 @@ sessions_marked h to t d level i e lt rising is places search index before near 
     search.closed (name_at n.client k) n steps has (why index steps has before near.2) (earlier_step h n k named below)
   where
     not_after : (a b : OpName) → a.client ≡ b.client → b.index < a.index → ¬ IsAtOrBefore a b
-    not_after a b c lt (inl (inl less)) = absurd (omega arith)
-    not_after a b c lt (inl (inr less)) = absurd (omega (arith, less.1))
-    not_after a b c lt (inr same) = absurd (omega (arith, ap (λ (x : OpName). x.index) same))
+    not_after a b c lt at = grind arith
 
     why : (index steps : ℕ) → HasSteps t (name_at (get_or level i e).client index) steps → index < (get_or level i e).index → steps < d + 1
         → (steps < d) ⊎ Contains (take i level) (name_at (get_or level i e).client index)
@@ -102,10 +100,7 @@ level_end h to t d level i is = record {
   where
     below : (b : OpName) (k : ℕ) → HasSteps t b k → (k < d + 1) ⊎ Contains [] b → (k < d) ⊎ Contains level b
     below b k has (inr c) = absurd (none_contained b c)
-    below b k has (inl lt) = elim (cases_lt k d) [
-      | inl low ↦ inl low
-      | inr high ↦ (let same : k ≡ d = omega arith in inr ((is b).1 (subst (HasSteps t b) same has)))
-    ]
+    below b k has (inl lt) = elim (cases_lt k d) [ inl low ↦ inl low | inr high ↦ (let same : k ≡ d = omega arith in inr ((is b).1 (subst (HasSteps t b) same has))) ]
 
 -- beyond the next level nothing is marked yet
 pub fresh_end : (h : Sessions) (to : OpName) (t : Table) (d : ℕ) (level : List OpName) → IsSearch h to t d level → IsLevel t (d + 1 + 1) []
@@ -167,6 +162,4 @@ module _ (h : Sessions) (to : OpName) (m0 : Mark) (is0 : m0.steps ≡ 0) (named 
 
 pub rising_one : (names : List OpName) (to : OpName) → names ≡ to ∷ [] → IsRising names
 rising_one names to is j k d le lt =
-    let top : length names ≡ 1 = ap length is in
-    let j0 : j ≡ k = omega arith in
-    inr (ap (λ (x : ℕ). get_or names x d) j0)
+    inr (ap (λ (x : ℕ). get_or names x d) (omega (arith, ap length is)))

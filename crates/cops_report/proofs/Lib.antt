@@ -8,6 +8,5 @@ pub mod OrderLemmas
 pub mod ChainLemmas
 pub mod LineLemmas
 pub mod StaleLemmas
-pub mod VerdictLemmas
 pub mod ChainLaws
 pub mod SameReports

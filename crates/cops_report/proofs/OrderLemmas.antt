@@ -1,36 +1,26 @@
 -- Sorted names are in their order.
-use Rattle.std.proofs.Common.{◌≡◌, ◌≢◌, ◌∙◌, ◌+◌, ◌-◌, ◌<◌, ◌≤◌, ℕ, zero, suc, Bool, true, false, cond, List, length, get_or, refl, sym, ap, subst, arith, inl, inr, eqb, ltb, is_lt}
+use Rattle.std.proofs.Common.{◌≡◌, ◌+◌, ◌-◌, ◌<◌, ◌≤◌, ℕ, zero, suc, Bool, false, List, length, get_or, refl, sym, ap, subst, arith, inl, inr, is_lt}
 use Rattle.std.specs.Ordering.{ordering_then, nat_cmp}
-use Rattle.std.specs.declared.cmp.Ordering.TheVariants.{Less, Equal, Greater}
-use Rattle.std.proofs.lemmas.Bool.{cases_eq, eqb-true, eqb-false, ltb-false}
+use Rattle.std.proofs.lemmas.Bool.{cases_eq, cases_lt}
+use Rattle.std.proofs.lemmas.Bool.Decides.{nat_tests}
 use Rattle.cops_types.specs.declared.op.OpName.{OpName}
 use Rattle.cops_types.specs.Faults.{IsBefore}
 use Rattle.cops_report.specs.Searches.{IsAtOrBefore, IsRising}
 use Rattle.cops_audit.proofs.Acyclic.{same_name}
 
 not_below : (a b : OpName) → is_lt (ordering_then (nat_cmp b.client a.client) (nat_cmp b.index a.index)) ≡ false → IsAtOrBefore a b
-not_below a b h = go (ltb b.client a.client) (eqb b.client a.client) (ltb b.index a.index) (eqb b.index a.index) refl refl refl h
-  where
-    go : (p q r s : Bool) → ltb b.client a.client ≡ p → eqb b.client a.client ≡ q → ltb b.index a.index ≡ r
-        → is_lt (ordering_then (cond p Less (cond q Equal Greater)) (cond r Less (cond s Equal Greater))) ≡ false → IsAtOrBefore a b
-    go true q r s ep eq er e = absurd cc
-    go false true true s ep eq er e = absurd cc
-    go false true false s ep eq er e =
-        let c : b.client ≡ a.client = eqb-true _ _ eq in
-        let i : a.index ≤ b.index = omega (arith, ltb-false _ _ er) in
-        elim (cases_eq a.index b.index) [ inl same ↦ inr (same_name a b (sym c) same) | inr other ↦ inl (inr (sym c, omega arith)) ]
-    go false false r s ep eq er e =
-        let le : a.client ≤ b.client = omega (arith, ltb-false _ _ ep) in
-        let ne : b.client ≢ a.client = eqb-false _ _ eq in
-        inl (inl (omega arith))
+not_below a b h = elim (cases_lt a.client b.client) [
+  | inl less ↦ inl (inl less)
+  | inr more ↦
+      let client : a.client ≡ b.client = grind (arith, nat_tests) in
+      let index : a.index ≤ b.index = grind (arith, nat_tests) in
+      elim (cases_eq a.index b.index) [ inl same ↦ inr (same_name a b client same) | inr other ↦ inl (inr (client, omega arith)) ]
+]
 
 at_or_before_joined : (a b c : OpName) → IsAtOrBefore a b → IsAtOrBefore b c → IsAtOrBefore a c
 at_or_before_joined a b c (inr e) second = subst (λ (x : OpName). IsAtOrBefore x c) (sym e) second
 at_or_before_joined a b c (inl p) (inr e) = inl (subst (IsBefore a) e p)
-at_or_before_joined a b c (inl (inl p)) (inl (inl q)) = inl (inl (omega arith))
-at_or_before_joined a b c (inl (inl p)) (inl (inr q)) = inl (inl (omega arith))
-at_or_before_joined a b c (inl (inr p)) (inl (inl q)) = inl (inl (omega arith))
-at_or_before_joined a b c (inl (inr p)) (inl (inr q)) = inl (inr (p.0 ∙ q.0, omega arith))
+at_or_before_joined a b c (inl p) (inl q) = inl (grind arith)
 
 abbrev compared : OpName → OpName → Bool
 compared a b = is_lt (ordering_then (nat_cmp a.client b.client) (nat_cmp a.index b.index))

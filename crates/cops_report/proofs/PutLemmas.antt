@@ -5,16 +5,13 @@ use Rattle.std.proofs.lemmas.Bool.{cases_lt, ltb-true, ltb-false}
 use Rattle.std.proofs.lemmas.List.{get_or_default, get_or-drop, length-drop, take_rest}
 use Rattle.std.proofs.lemmas.List.Sorted.{Contains-permutation}
 use Rattle.cops_types.specs.declared.op.OpName.{OpName}
-use Rattle.cops_types.specs.Histories.{Sessions, IsNamed, SourceStep, read}
+use Rattle.cops_types.specs.Histories.{Sessions, SourceStep, read}
 use Rattle.cops_types.specs.Operations.{GetsVersion}
 use Rattle.cops_types.specs.PutLists.{AreAllPuts}
 use Rattle.cops_report.specs.declared.marks.Mark.{Mark}
 use Rattle.cops_types.specs.declared.versioned_put.VersionedPut.{VersionedPut}
 use Rattle.cops_report.specs.Marks.{Table, Gains, IsMarked}
 use Rattle.cops_report.specs.Puts.{HasPut, HasAllPuts}
-
-pub source_named : (h : Sessions) (p g : OpName) → SourceStep h p g → IsNamed h p
-source_named h p g s = (_, s.put)
 
 abbrev put_of : OpName → ℕ → VersionedPut
 put_of n v = record { version = v; name = n }
@@ -60,10 +57,6 @@ from_all puts v i parts n has = subst (λ (xs : List VersionedPut). HasPut xs n 
 
 -- ---- sources
 
--- a get has one version
-pub got_once : (h : Sessions) (p g : OpName) (v : ℕ) (s : SourceStep h p g) → GetsVersion h g v → s.version ≡ v
-got_once h p g v s got = (let e : Some (read s.key s.content s.version) ≡ Some (read got.0 got.1 v) = sym s.got ∙ got.2 in cc)
-
 -- the first i puts are marked where they are sources
 abbrev pub HoldersMarked : Sessions → Table → Mark → List VersionedPut → ℕ → Type 0
 HoldersMarked h t mark puts i = (k : ℕ) (d : VersionedPut) → k < i → SourceStep h (get_or puts k d).name mark.next → IsMarked t (get_or puts k d).name
@@ -78,12 +71,16 @@ holders_more h mark s t names more puts i d lt all g here k e below st = elim (c
       subst (λ (p : VersionedPut). IsMarked t p.name) is (here (subst (λ (p : VersionedPut). SourceStep h p.name mark.next) (sym is) st))
 ]
 
--- all sources are marked where those among the first i puts are, and no later put has the version
-pub holders_all : (h : Sessions) (t : Table) (mark : Mark) (puts : List VersionedPut) (i v : ℕ) → HoldersMarked h t mark puts i
-    → ((k : ℕ) (d : VersionedPut) → i ≤ k → k < length puts → (get_or puts k d).version ≢ v) → (n : OpName) → HasPut puts n v → SourceStep h n mark.next → IsMarked t n
-holders_all h t mark puts i v marked further n has st = elim (cases_lt has.0 i) [
-  | inl below ↦
-      let at = has.2 in
-      subst (λ (p : VersionedPut). IsMarked t p.name) at (marked has.0 (put_of n v) below (subst (λ (p : VersionedPut). SourceStep h p.name mark.next) (sym at) st))
-  | inr above ↦ absurd (further has.0 (put_of n v) above has.1 (ap (λ (p : VersionedPut). p.version) has.2))
-]
+-- all sources are marked where those among the first i holders are, and no later holder has the version
+pub holders_all : (h : Sessions) (t : Table) (mark : Mark) (puts holders : List VersionedPut) (i v : ℕ) → HasAllPuts h puts → GetsVersion h mark.next v
+    → ((n : OpName) → HasPut puts n v → HasPut holders n v) → HoldersMarked h t mark holders i
+    → ((k : ℕ) (d : VersionedPut) → i ≤ k → k < length holders → (get_or holders k d).version ≢ v) → (n : OpName) → SourceStep h n mark.next → IsMarked t n
+holders_all h t mark puts holders i v all got held marked further n s =
+    let e : Some (read s.key s.content s.version) ≡ Some (read got.0 got.1 v) = sym s.got ∙ got.2 in
+    let same : s.version ≡ v = cc in
+    let has = held n (subst (HasPut puts n) same (all.all n s.version (s.key, s.content, s.put))) in
+    elim (cases_lt has.0 i) [
+      | inl below ↦ subst (λ (p : VersionedPut). IsMarked t p.name) has.2
+          (marked has.0 (put_of n v) below (subst (λ (p : VersionedPut). SourceStep h p.name mark.next) (sym has.2) s))
+      | inr above ↦ absurd (further has.0 (put_of n v) above has.1 (ap (λ (p : VersionedPut). p.version) has.2))
+    ]

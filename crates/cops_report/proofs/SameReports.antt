@@ -1,7 +1,9 @@
 -- Histories that differ only in values and have one verdict have one report.
-use Rattle.std.proofs.Common.{IfOk, Result, Ok, Err, ◌≡◌, ◌≢◌, ◌+◌, ◌⊎◌, ℕ, zero, suc, List, [], ◌∷◌, ◌++◌, length, map, flat_map, Option, Some, None, option_map, refl, sym, ◌∙◌, ap, ap₂, inl, inr, slice_get, slice_index_or}
-use Rattle.std.specs.Prelude.{codes, count_by, cond}
-use Rattle.std.proofs.lemmas.Bool.{cases_eq}
+use Rattle.std.proofs.Common.{IfOk, Result, Ok, Err, ◌≡◌, ◌≢◌, ◌+◌, ◌⊎◌, ℕ, List, [], ◌∷◌, ◌++◌, length, map, flat_map, Option, Some, None, option_map, refl, sym, ◌∙◌, ap, ap₂, inl, inr, slice_get, slice_index_or}
+use Rattle.std.specs.Prelude.{bytes_eq, codes, count_by, cond}
+use Rattle.std.proofs.Math.ListN.{get_or-map}
+use Rattle.std.proofs.lemmas.Bool.{cases_Bool}
+use Rattle.std.proofs.lemmas.Slice.Eq.{bytes_eq-Decides}
 use Rattle.std.proofs.lemmas.List.{length-map}
 use Rattle.std.proofs.lemmas.List.Sums.{sum_by-cons}
 use Rattle.std.proofs.lemmas.Option.{slice_get-map}
@@ -25,9 +27,7 @@ use Rattle.cops_audit.proofs.Differing.{name_cases}
 -- ---- what is left where the values are left out
 
 session_left : (h : Sessions) (c : ℕ) → slice_index_or (without_values h) c [] ≡ map without_value (slice_index_or h c [])
-session_left [] c = refl
-session_left (s ∷ h) zero = refl
-session_left (s ∷ h) (suc c) = session_left h c
+session_left h c = get_or-map (map without_value) h c []
 
 op_left : (h : Sessions) (n : OpName) → op_at (without_values h) n ≡ option_map without_value (op_at h n)
 op_left h n = ap (λ (s : List Operation). slice_get s n.index) (session_left h n.client) ∙ slice_get-map without_value (slice_index_or h n.client []) n.index
@@ -83,16 +83,9 @@ got_of (Some (missed k)) key left version e = absurd cc
 -- ---- values that have to be the same
 
 value_cases : (xs ys : List ℕ) → (xs ≡ ys) ⊎ (xs ≢ ys)
-value_cases [] [] = inl refl
-value_cases [] (y ∷ ys) = inr (λ e. absurd cc)
-value_cases (x ∷ xs) [] = inr (λ e. absurd cc)
-value_cases (x ∷ xs) (y ∷ ys) = elim (cases_eq x y) [
-  | inl same ↦ elim (value_cases xs ys) [
-    | inl rest ↦ inl (ap₂ (λ (a : ℕ) (l : List ℕ). a ∷ l) same rest)
-    | inr other ↦ inr (λ e. let rest : xs ≡ ys = cc in other rest)
-  ]
-  | inr other ↦ inr (λ e. let same : x ≡ y = cc in other same)
-]
+value_cases xs ys =
+    let same = bytes_eq-Decides xs ys in
+    elim (cases_Bool (bytes_eq xs ys)) [ inl e ↦ inl (same.0 e) | inr e ↦ inr (λ is. absurd (let f = same.1 is in cc)) ]
 
 content_cases : (x y : Option (List ℕ)) → (x ≡ y) ⊎ (x ≢ y)
 content_cases None None = inl refl

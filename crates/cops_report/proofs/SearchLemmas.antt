@@ -10,10 +10,7 @@ use Rattle.cops_report.specs.Marks.{Table, Gains, IsMarked, mark_at}
 use Rattle.cops_report.specs.Searches.{HasSteps, IsAtOrBefore, IsSearch}
 
 pub one_steps : (t : Table) (n : OpName) (j k : ℕ) → HasSteps t n j → HasSteps t n k → j ≡ k
-one_steps t n j k a b =
-    let same : Some a.0 ≡ Some b.0 = sym a.1 ∙ b.1 in
-    let is : a.0 ≡ b.0 = cc in
-    sym a.2 ∙ ap (λ (m : Mark). m.steps) is ∙ b.2
+one_steps t n j k a b = (let same : Some a.0 ≡ Some b.0 = sym a.1 ∙ b.1 in cc)
 
 pub steps_kept : (h : Sessions) (mark : Mark) (s t : Table) (names more : List OpName) (n : OpName) (k : ℕ) → Gains h mark s t names more → HasSteps s n k → HasSteps t n k
 steps_kept h mark s t names more n k g a = (a.0, g.kept n a.0 a.1, a.2)
@@ -28,9 +25,6 @@ steps_before h mark s t names more n k g other a = elim (g.gained n a.0 a.1) [
 module _ (h : Sessions) (to b0 : OpName) (mark : Mark) (s t : Table) (d : ℕ) (done names more : List OpName)
     (i : IsSearch h to s d done) (g : Gains h mark s t names more) (steps : mark.steps ≡ d + 1) (next : mark.next ≡ b0) (here : HasSteps s b0 d)
     (later : (n : OpName) → HasSteps s n d → Contains done n ⊎ IsAtOrBefore b0 n) (all : (a : OpName) → Step h a b0 → IsMarked t a) where
-  old_or_new : (n : OpName) (m : Mark) → mark_at t n ≡ Some m → (mark_at s n ≡ Some m) ⊎ ((mark_at s n ≡ None) × (m ≡ mark) × Step h n mark.next)
-  old_or_new n m e = elim (g.gained n m e) [ inl old ↦ inl old | inr new ↦ inr (new.0, new.1, new.2) ]
-
   keeps : (n : OpName) (k : ℕ) → HasSteps s n k → HasSteps t n k
   keeps n k a = steps_kept h mark s t names more n k g a
 
@@ -39,7 +33,7 @@ module _ (h : Sessions) (to b0 : OpName) (mark : Mark) (s t : Table) (d : ℕ) (
   before n k low a = steps_before h mark s t names more n k g (λ e. absurd (omega arith)) a
 
   bound_now : (n : OpName) (k : ℕ) → HasSteps t n k → k ≤ d + 1
-  bound_now n k a = elim (old_or_new n a.0 a.1) [
+  bound_now n k a = elim (g.gained n a.0 a.1) [
     | inl old ↦ i.bound n k (a.0, old, a.2)
     | inr new ↦ (let e : a.0.steps ≡ mark.steps = ap (λ (m : Mark). m.steps) new.1 in omega (arith, a.2))
   ]
@@ -87,7 +81,7 @@ module _ (h : Sessions) (to b0 : OpName) (mark : Mark) (s t : Table) (d : ℕ) (
   first_now a b m k e count has st =
       let top : k + 1 ≤ d + 1 = bound_now a (k + 1) (m, e, count) in
       let old_b : HasSteps s b k = before b k (omega arith) has in
-      elim (old_or_new a m e) [
+      elim (g.gained a m e) [
         | inl old ↦ i.first a b m k old count old_b st
         | inr new ↦
             let e2 : m.steps ≡ mark.steps = ap (λ (x : Mark). x.steps) new.1 in
@@ -104,7 +98,7 @@ module _ (h : Sessions) (to b0 : OpName) (mark : Mark) (s t : Table) (d : ℕ) (
   search_more = record {
     root = keeps to 0 i.root;
     only_root = λ n a. i.only_root n (before n 0 (omega arith) a);
-    step = λ n m k e count. elim (old_or_new n m e) [
+    step = λ n m k e count. elim (g.gained n m e) [
       | inl old ↦ (let was = i.step n m k old count in (was.0, keeps m.next k was.1))
       | inr new ↦
           let same : m.next ≡ b0 = ap (λ (x : Mark). x.next) new.1 ∙ next in

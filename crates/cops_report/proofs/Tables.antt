@@ -1,15 +1,17 @@
 -- Tables of marks, as lists and as vectors.
-use Rattle.std.proofs.Common.{◌≡◌, ◌≢◌, ℕ, zero, suc, ◌+◌, ◌<◌, ◌≤◌, List, [], ◌∷◌, ◌++◌, map, length, get_or, replicate, Vec, Global, Option, Some, None, refl, sym, ap, ◌∙◌, arith, get_or-set_same, get_or-set_other, inl, inr, ltb, take, ap₂, cond, ◌*◌}
-use Rattle.std.specs.Prelude.{sum_by, count_by, is_none, slice_get}
-use Rattle.std.proofs.Math.ListN.{set, length-set}
-use Rattle.std.proofs.lemmas.Bool.{cases_Bool, cases_eq, cases_lt, ltb-true, ltb-false}
-use Rattle.std.proofs.lemmas.List.{map-set, get_or-map, length-replicate, set_past, get_or_past, take_all, take_more, map-append}
+use Rattle.std.proofs.Common.{◌≡◌, ◌≢◌, ℕ, zero, suc, ◌+◌, ◌<◌, List, [], ◌∷◌, map, length, get_or, replicate, Vec, Global, Option, Some, None, refl, sym, ap, ◌∙◌, arith, get_or-set_same, get_or-set_other, inl, inr, cond, ◌*◌}
+use Rattle.std.specs.Prelude.{sum_by, count_by, is_none}
+use Rattle.std.proofs.Math.ListN.{set, length-set, get_or-map as get_or-map_default}
+use Rattle.std.proofs.lemmas.Option.{slice_get_within}
+use Rattle.std.proofs.lemmas.Bool.{cases_eq, cases_lt}
+use Rattle.std.proofs.lemmas.List.{map-set, get_or-map, length-replicate, set_past, get_or_past}
 use Rattle.std.proofs.lemmas.List.Sums.{sum_by-cons, sum_by-set}
 use Rattle.std.proofs.lemmas.List.Folds.{sum_by-replicate}
 use Rattle.cops_types.specs.declared.op.OpName.{OpName}
-use Rattle.cops_types.specs.Histories.{Sessions, IsNamed, Operation}
+use Rattle.cops_types.specs.Histories.{Sessions, Operation}
 use Rattle.cops_types.specs.Counts.{count_of}
 use Rattle.cops_audit.proofs.Acyclic.{same_name}
+use Rattle.cops_audit.proofs.Listing.{slice_get_there}
 use Rattle.cops_report.specs.declared.marks.Mark.{Mark}
 use Rattle.cops_report.specs.Marks.{Table, HasPlace, IsMarked, PlacesAll, mark_at, open_places, unmarked, with_mark}
 
@@ -30,12 +32,7 @@ marked_session xs name old new mark inside at more =
 
 -- the client of a name that has a place is in the table
 pub place_client : (t : Table) (name : OpName) → HasPlace t name → name.client < length t
-place_client t name there = elim (cases_Bool (ltb name.client (length t))) [
-  | inl p ↦ ltb-true _ _ p
-  | inr p ↦
-      let past : length t ≤ name.client = omega (arith, ltb-false _ _ p) in
-      let none : length (get_or t name.client []) ≡ 0 = ap length (get_or_past t name.client [] past) in absurd (omega arith)
-]
+place_client t name there = elim (cases_lt name.client (length t)) [ inl inside ↦ inside | inr past ↦ absurd (omega (arith, ap length (get_or_past t name.client [] past))) ]
 
 abbrev no_marks : ℕ → List (Option Mark)
 no_marks n = replicate n None
@@ -43,58 +40,42 @@ no_marks n = replicate n None
 abbrev pub no_marks_of : List Operation → List (Option Mark)
 no_marks_of s = replicate (length s) None
 
--- the vectors of all sessions together are the table without marks
-pub all_unmarked : (h : Sessions) (n : ℕ) (xs : List Session) → length h ≤ n → map marks_of xs ≡ unmarked (take n h) → map marks_of xs ≡ unmarked h
-all_unmarked h n xs all same = same ∙ ap unmarked (take_all n h all)
-
-pub one_more_unmarked : (h : Sessions) (n : ℕ) (xs : List Session) (new : Session) → n < length h → map marks_of xs ≡ unmarked (take n h)
-    → new.items ≡ replicate (length (get_or h n [])) None → map marks_of (xs ++ new ∷ []) ≡ unmarked (take (n + 1) h)
-one_more_unmarked h n xs new inside same one =
-    map-append marks_of xs (new ∷ [])
-    ∙ ap₂ (λ (a b : Table). a ++ b) same (ap (λ (s : List (Option Mark)). s ∷ []) one)
-    ∙ sym (map-append no_marks_of (take n h) (get_or h n [] ∷ []))
-    ∙ ap unmarked (sym (take_more h n [] inside))
-
 -- ---- marks
+
+-- the session of the name has the mark, and the others stay
+session-same : (t : Table) (n : OpName) (m : Mark) → get_or (with_mark t n m) n.client [] ≡ set (get_or t n.client []) n.index (Some m)
+session-same t n m = elim (cases_lt n.client (length t)) [
+  | inl inside ↦ get_or-set_same t n.client _ [] inside
+  | inr past ↦
+      let none : length (get_or t n.client []) ≡ 0 = ap length (get_or_past t n.client [] past) in
+      ap (λ (x : Table). get_or x n.client []) (set_past t n.client _ past) ∙ sym (set_past (get_or t n.client []) n.index (Some m) (omega arith))
+]
 
 pub mark_at-same : (t : Table) (n : OpName) (m : Mark) → HasPlace t n → mark_at (with_mark t n m) n ≡ Some m
 mark_at-same t n m there =
-    let s = get_or t n.client [] in
-    let inside : n.client < length t = place_client t n there in
-    ap (λ (x : List (Option Mark)). get_or x n.index None) (get_or-set_same t n.client (set s n.index (Some m)) [] inside)
-    ∙ get_or-set_same s n.index (Some m) None there
+    ap (λ (x : List (Option Mark)). get_or x n.index None) (session-same t n m) ∙ get_or-set_same (get_or t n.client []) n.index (Some m) None there
 
 -- the mark of another name stays, in another session or at another place
 pub mark_at-other : (t : Table) (n k : OpName) (m : Mark) → k ≢ n → mark_at (with_mark t n m) k ≡ mark_at t k
 mark_at-other t n k m other = elim (cases_eq k.client n.client) [
   | inl c ↦
-      let index : k.index ≢ n.index = λ i. other (same_name k n c i) in
-      elim (cases_lt n.client (length t)) [
-        | inl inside ↦
-            ap (λ (x : ℕ). get_or (get_or (with_mark t n m) x []) k.index None) c
-            ∙ ap (λ (x : List (Option Mark)). get_or x k.index None) (get_or-set_same t n.client (set (get_or t n.client []) n.index (Some m)) [] inside)
-            ∙ get_or-set_other (get_or t n.client []) n.index k.index (Some m) None index
-            ∙ ap (λ (x : ℕ). get_or (get_or t x []) k.index None) (sym c)
-        | inr past ↦ ap (λ (x : Table). mark_at x k) (set_past t n.client (set (get_or t n.client []) n.index (Some m)) past)
-      ]
+      ap (λ (x : ℕ). get_or (get_or (with_mark t n m) x []) k.index None) c
+      ∙ ap (λ (x : List (Option Mark)). get_or x k.index None) (session-same t n m)
+      ∙ get_or-set_other (get_or t n.client []) n.index k.index (Some m) None (λ i. other (same_name k n c i))
+      ∙ ap (λ (x : ℕ). get_or (get_or t x []) k.index None) (sym c)
   | inr c ↦ ap (λ (x : List (Option Mark)). get_or x k.index None) (get_or-set_other t n.client k.client (set (get_or t n.client []) n.index (Some m)) [] c)
 ]
 
 -- a mark changes no place
 pub place-with_mark : (t : Table) (n k : OpName) (m : Mark) → length (get_or (with_mark t n m) k.client []) ≡ length (get_or t k.client [])
-place-with_mark t n k m =
-    let s = get_or t n.client [] in
-    elim (cases_lt n.client (length t)) [
-      | inl inside ↦ elim (cases_eq k.client n.client) [
-        | inl c ↦
-            ap (λ (x : ℕ). length (get_or (with_mark t n m) x [])) c
-            ∙ ap length (get_or-set_same t n.client (set s n.index (Some m)) [] inside)
-            ∙ length-set s n.index (Some m)
-            ∙ ap (λ (x : ℕ). length (get_or t x [])) (sym c)
-        | inr c ↦ ap length (get_or-set_other t n.client k.client (set s n.index (Some m)) [] c)
-      ]
-      | inr past ↦ ap (λ (x : Table). length (get_or x k.client [])) (set_past t n.client (set s n.index (Some m)) past)
-    ]
+place-with_mark t n k m = elim (cases_eq k.client n.client) [
+  | inl c ↦
+      ap (λ (x : ℕ). length (get_or (with_mark t n m) x [])) c
+      ∙ ap length (session-same t n m)
+      ∙ length-set (get_or t n.client []) n.index (Some m)
+      ∙ ap (λ (x : ℕ). length (get_or t x [])) (sym c)
+  | inr c ↦ ap length (get_or-set_other t n.client k.client (set (get_or t n.client []) n.index (Some m)) [] c)
+]
 
 -- ---- open places
 
@@ -134,9 +115,7 @@ place_marked t n m = elim (cases_lt n.index (length (get_or t n.client []))) [
 -- ---- tables without marks
 
 get_or-unmarked : (h : Sessions) (c : ℕ) → get_or (unmarked h) c [] ≡ no_marks_of (get_or h c [])
-get_or-unmarked [] c = refl
-get_or-unmarked (s ∷ h) zero = refl
-get_or-unmarked (s ∷ h) (suc c) = get_or-unmarked h c
+get_or-unmarked h c = get_or-map_default no_marks_of h c []
 
 none_marked : (n i : ℕ) → get_or (no_marks n) i None ≡ None
 none_marked zero i = refl
@@ -146,25 +125,11 @@ none_marked (suc n) (suc i) = none_marked n i
 pub mark_at-unmarked : (h : Sessions) (n : OpName) → mark_at (unmarked h) n ≡ None
 mark_at-unmarked h n = ap (λ (s : List (Option Mark)). get_or s n.index None) (get_or-unmarked h n.client) ∙ none_marked (length (get_or h n.client [])) n.index
 
-there : (s : List Operation) (i : ℕ) → i < length s → (op : Operation) × (slice_get s i ≡ Some op)
-there [] i lt = absurd (omega arith)
-there (x ∷ xs) zero lt = (x, refl)
-there (x ∷ xs) (suc i) lt = there xs i (omega arith)
-
-inside : (s : List Operation) (i : ℕ) (op : Operation) → slice_get s i ≡ Some op → i < length s
-inside [] i op e = absurd cc
-inside (x ∷ xs) zero op e = omega arith
-inside (x ∷ xs) (suc i) op e = omega (arith, inside xs i op e)
-
--- an operation has a place in its session
-pub named_index : (h : Sessions) (n : OpName) → IsNamed h n → n.index < length (get_or h n.client [])
-named_index h n named = inside (get_or h n.client []) n.index named.0 named.1
-
 -- a table without marks has a place for each operation
 pub places-unmarked : (h : Sessions) → PlacesAll (unmarked h) h
 places-unmarked h n =
     let same : length (get_or (unmarked h) n.client []) ≡ length (get_or h n.client []) = ap length (get_or-unmarked h n.client) ∙ length-replicate (length (get_or h n.client [])) None in
-    (λ p. there (get_or h n.client []) n.index (omega arith), λ named. omega (arith, named_index h n named))
+    (λ p. slice_get_there (get_or h n.client []) n.index (omega arith), λ named. omega (arith, slice_get_within (get_or h n.client []) n.index named.0 named.1))
 
 pub places-with_mark : (t : Table) (h : Sessions) (n : OpName) (m : Mark) → PlacesAll t h → PlacesAll (with_mark t n m) h
 places-with_mark t h n m all k = (λ p. (all k).0 (omega (arith, place-with_mark t n k m)), λ named. omega (arith, place-with_mark t n k m, (all k).1 named))

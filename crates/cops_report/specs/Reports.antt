@@ -77,21 +77,20 @@ AreStaleLines h (f ∷ fs) text = (chain : List OpName) × (rest : List ℕ)
 abbrev pub AddsStaleLine : Sessions → Stale → List ℕ → List ℕ → Type 0
 AddsStaleLine h f old new = (chain : List OpName) × IsFirstChain h f.newer f.op chain × (new ≡ old ++ stale_line h f chain)
 
--- the text gains the lines of stale gets
-abbrev pub AddsStaleLines : Sessions → List Stale → List ℕ → List ℕ → Type 0
-AddsStaleLines h faults old new = (lines : List ℕ) × AreStaleLines h faults lines × (new ≡ old ++ lines)
-
 -- the first line of a refusal, and then a line for each fault
 abbrev pub refusal : Sessions → ℕ → List ℕ → List ℕ
 refusal h faults lines = refused_line (count_of h) (put_count h) faults ++ lines
+
+-- the text of a refusal for stale gets
+abbrev pub IsStaleRefusal : Sessions → List Stale → List ℕ → Type 0
+IsStaleRefusal h faults text = (lines : List ℕ) × AreStaleLines h faults lines × (text ≡ refusal h (length faults) lines)
 
 -- the text of a refusal, by the class of its faults
 abbrev pub IsRefusal : Sessions → Faults → List ℕ → Type 0
 IsRefusal h (class.Doubled names) text = text ≡ refusal h (length names.items) (flat_map (named_line (codes "doubled") h) names.items)
 IsRefusal h (class.NoSource names) text = text ≡ refusal h (length names.items) (flat_map (named_line (codes "no source") h) names.items)
 IsRefusal h (class.NotAbove faults) text = text ≡ refusal h (length faults.items) (flat_map (not_above_line h) faults.items)
-IsRefusal h (class.Stale faults) text =
-    (lines : List ℕ) × AreStaleLines h faults.items lines × (text ≡ refusal h (length faults.items) lines)
+IsRefusal h (class.Stale faults) text = IsStaleRefusal h faults.items text
 
 -- the text of the verdict on the history
 abbrev pub IsReport : Sessions → Verdict → List ℕ → Type 0

@@ -5,7 +5,8 @@ use Rattle.cops_types.specs.Histories.{Sessions}
 use Rattle.cops_types.specs.Past.{Step}
 use Rattle.cops_types.specs.Faults.{IsBefore}
 use Rattle.cops_report.specs.declared.marks.Mark.{Mark}
-use Rattle.cops_report.specs.Marks.{Table, IsMarked, mark_at}
+use Rattle.cops_report.specs.declared.search.Level.{Level}
+use Rattle.cops_report.specs.Marks.{Table, IsMarked, PlacesAll, mark_at}
 
 -- the name is marked with k steps
 abbrev pub HasSteps : Table → OpName → ℕ → Type 0
@@ -35,6 +36,14 @@ pub record IsSearch (h : Sessions) (to : OpName) (t : Table) (d : ℕ) (done : L
   pub closed : (a b : OpName) (k : ℕ) → HasSteps t b k → (k < d) ⊎ Contains done b → Step h a b → IsMarked t a
   pub near : (a b : OpName) (j k : ℕ) → HasSteps t a j → HasSteps t b k → (k < d) ⊎ Contains done b → Step h a b → j ≤ k + 1
   pub first : (a b : OpName) (m : Mark) (k : ℕ) → mark_at t a ≡ Some m → m.steps ≡ k + 1 → HasSteps t b k → Step h a b → IsAtOrBefore m.next b
+
+-- a search that has marked all names up to those of the level, which are in order
+pub record HasReached (h : Sessions) (to : OpName) (t : Table) (level : Level) : Type 0 where
+  pub search : IsSearch h to t level.steps []
+  pub is_level : IsLevel t level.steps level.names.items
+  pub fresh : IsLevel t (level.steps + 1) []
+  pub rising : IsRising level.names.items
+  pub places : PlacesAll t h
 
 -- a search that has reached `from`, or has no further name to reach
 pub record IsFound (h : Sessions) (from to : OpName) (t : Table) : Type 0 where

@@ -38,7 +38,7 @@ impl Marks {
         let mut sessions = Vec::new(alloc);
         for client in 0..history.clients() {
             let operations = history.session_len(client as u16);
-            sessions.push(no_marks(alloc, operations)?)?;
+            sessions.push(vec![in alloc; None; operations]?)?;
         }
         Ok(Marks { sessions })
     }
@@ -60,17 +60,4 @@ impl Marks {
         let session = &mut self.sessions[name.client as usize];
         session[name.index as usize] = Some(mark);
     }
-}
-
-ghost use Rattle.std.specs.Prelude.{◌≡◌, IfOk, replicate, None};
-
-/// `operations` places without a mark.
-fn no_marks(alloc: Global, operations: usize) -> Result<Vec<Option<Mark>>, AllocError>
-    ensures { IfOk result (λ marks. marks.items ≡ replicate operations None) }
-{
-    let mut marks = Vec::new(alloc);
-    for _ in 0..operations {
-        marks.push(None)?;
-    }
-    Ok(marks)
 }

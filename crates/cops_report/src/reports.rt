@@ -1,4 +1,4 @@
-ghost use Rattle.std.specs.Prelude.{◌≡◌, List, [], ℕ, length, OnOk, IfOk, Contains};
+ghost use Rattle.std.specs.Prelude.{◌≡◌, OnOk, IfOk, Contains, length, string_bytes};
 ghost use Rattle.std.specs.List.{flat_map};
 ghost use Rattle.cops_types.specs.declared.op.OpName.{OpName};
 ghost use Rattle.cops_types.specs.Faults.{IsStale};
@@ -7,124 +7,124 @@ ghost use Rattle.cops_audit.specs.Verdicts.{IsVerdict};
 ghost use Rattle.cops_audit.specs.declared.verdict.NotAbove.{NotAbove};
 ghost use Rattle.cops_audit.specs.declared.verdict.Stale.{Stale};
 ghost use Rattle.cops_report.specs.Puts.{HasAllPuts};
-ghost use Rattle.cops_report.specs.Reports.{AddsStaleLine, AddsStaleLines, AreStaleLines, HasSomeVersion, IsRefusal, IsReport, accepted_line, named_line, not_above_line, refusal};
+ghost use Rattle.cops_report.specs.Reports.{AddsStaleLine, HasSomeVersion, IsRefusal, IsReport, IsStaleRefusal, accepted_line, named_line, not_above_line, refusal, refused_line};
 
 use crate::chains::chain_by;
-use crate::lines;
+use crate::lines::{stale, version_at};
 use crate::puts::put_table;
 use cops_audit::{Faults, NotAbove, Stale, Verdict};
 use cops_types::{History, Memory, OpName, VersionedPut};
-use std::alloc::Global;
+use std::alloc::{AllocError, Global};
+use std::fmt::Write;
 
 /// Adds the line of a stale get, with the chain from the newer put to it.
 fn stale_line(
     alloc: Global,
-    out: &mut Vec<u8>,
+    text: &mut String,
     history: &History,
     puts: &[VersionedPut],
     fault: Stale,
 ) -> Result<(), Memory>
     requires puts { HasAllPuts history.now.sessions puts.now }
     requires stale { IsStale history.now.sessions fault.op fault.newer }
-    ensures { OnOk result (AddsStaleLine history.now.sessions fault out.old.items out.new.items) }
+    ensures { OnOk result (AddsStaleLine history.now.sessions fault (string_bytes text.old) (string_bytes text.new)) }
 {
     let found = chain_by(alloc, history, puts, fault.newer, fault.op)?;
     match found {
         Some(names) => {
-            lines::stale(alloc, out, history, fault, &names)?;
+            stale(text, history, fault, &names)?;
             Ok(())
         }
         None => unreachable!(),
     }
 }
 
-/// Adds a line for each stale get.
-fn stale_lines(
-    alloc: Global,
-    out: &mut Vec<u8>,
-    history: &History,
-    puts: &[VersionedPut],
-    faults: &[Stale],
-) -> Result<(), Memory>
-    requires puts { HasAllPuts history.now.sessions puts.now }
-    requires stale { (f : Stale) → Contains faults.now f → IsStale history.now.sessions f.op f.newer }
-    ensures { OnOk result (AddsStaleLines history.now.sessions faults.now out.old.items out.new.items) }
-{
-    for fault in faults {
-        stale_line(alloc, out, history, puts, *fault)?;
-    }
-    Ok(())
-}
-
 /// The first line of a refusal with this number of faults: `refused: N operations, M puts, F faults`.
-fn refused(alloc: Global, history: &History, faults: usize) -> Result<Vec<u8>, Memory>
-    ensures { IfOk result (λ text. text.items ≡ refusal history.now.sessions faults []) }
+fn refused(alloc: Global, history: &History, faults: usize) -> Result<String, AllocError>
+    ensures { IfOk result (λ text. string_bytes text
+        ≡ refused_line (count_of history.now.sessions) (put_count history.now.sessions) faults) }
 {
-    let mut text = Vec::new(alloc);
-    lines::refused(alloc, &mut text, history.len(), history.puts(), faults)?;
-    Ok(text)
+    let operations = history.len();
+    let puts = history.puts();
+    format!(in alloc; "refused: {operations} operations, {puts} puts, {faults} faults\n")
 }
 
-fn accepted(alloc: Global, history: &History) -> Result<Vec<u8>, Memory>
-    ensures { IfOk result (λ text. text.items
+/// The text of an acceptance.
+fn accepted(alloc: Global, history: &History) -> Result<String, AllocError>
+    ensures { IfOk result (λ text. string_bytes text
         ≡ accepted_line (count_of history.now.sessions) (put_count history.now.sessions)) }
 {
-    let mut text = Vec::new(alloc);
-    lines::accepted(alloc, &mut text, history.len(), history.puts())?;
-    Ok(text)
+    let operations = history.len();
+    let puts = history.puts();
+    format!(in alloc; "accepted: {operations} operations, {puts} puts\n")
 }
 
-/// A refusal whose faults are names.
+/// The text of a refusal with a line for each name, with its version.
 fn refused_names(
     alloc: Global,
     history: &History,
     word: &str,
     names: &[OpName],
-) -> Result<Vec<u8>, Memory>
+) -> Result<String, AllocError>
     requires { (n : OpName) → Contains names.now n → HasSomeVersion history.now.sessions n }
-    ensures { IfOk result (λ text. text.items ≡ refusal history.now.sessions (length names.now)
+    ensures { IfOk result (λ text. string_bytes text ≡ refusal history.now.sessions (length names.now)
         (flat_map (named_line word.now history.now.sessions) names.now)) }
 {
     let mut text = refused(alloc, history, names.len())?;
-    lines::named(alloc, &mut text, history, word, names)?;
+    for name in names {
+        let version = version_at(history, *name);
+        writeln!(text, "{word} {name} at {version}")?;
+    }
     Ok(text)
 }
 
+/// The text of a refusal with a line for each put that is not above an earlier operation of its session.
 fn refused_not_above(
     alloc: Global,
     history: &History,
     faults: &[NotAbove],
-) -> Result<Vec<u8>, Memory>
+) -> Result<String, AllocError>
     requires op { (f : NotAbove) → Contains faults.now f → HasSomeVersion history.now.sessions f.op }
     requires earlier { (f : NotAbove) → Contains faults.now f → HasSomeVersion history.now.sessions f.earlier }
-    ensures { IfOk result (λ text. text.items ≡ refusal history.now.sessions (length faults.now)
+    ensures { IfOk result (λ text. string_bytes text ≡ refusal history.now.sessions (length faults.now)
         (flat_map (not_above_line history.now.sessions) faults.now)) }
 {
     let mut text = refused(alloc, history, faults.len())?;
-    lines::not_above(alloc, &mut text, history, faults)?;
+    for fault in faults {
+        let op = fault.op;
+        let earlier = fault.earlier;
+        let own = version_at(history, op);
+        let other = version_at(history, earlier);
+        writeln!(
+            text,
+            "not above {op} at {own}, earlier {earlier} at {other}"
+        )?;
+    }
     Ok(text)
 }
 
-fn refused_stale(alloc: Global, history: &History, faults: &[Stale]) -> Result<Vec<u8>, Memory>
+/// The text of a refusal with a line for each stale get.
+fn refused_stale(alloc: Global, history: &History, faults: &[Stale]) -> Result<String, Memory>
     requires { (f : Stale) → Contains faults.now f → IsStale history.now.sessions f.op f.newer }
-    ensures { IfOk result (λ text. (lines : List ℕ) × AreStaleLines history.now.sessions faults.now lines
-        × (text.items ≡ refusal history.now.sessions (length faults.now) lines)) }
+    ensures { IfOk result (λ text. IsStaleRefusal history.now.sessions faults.now (string_bytes text)) }
 {
     let mut text = refused(alloc, history, faults.len())?;
     let puts = put_table(alloc, history)?;
-    stale_lines(alloc, &mut text, history, &puts, faults)?;
+    for fault in faults {
+        stale_line(alloc, &mut text, history, &puts, *fault)?;
+    }
     Ok(text)
 }
 
 /// The text of a refusal.
-fn refusal(alloc: Global, history: &History, faults: &Faults) -> Result<Vec<u8>, Memory>
+fn refusal(alloc: Global, history: &History, faults: &Faults) -> Result<String, Memory>
     requires { IsVerdict history.now.sessions (Verdict.Refused faults.now) }
-    ensures { IfOk result (λ text. IsRefusal history.now.sessions faults.now text.items) }
+    ensures { IfOk result (λ text. IsRefusal history.now.sessions faults.now (string_bytes text)) }
 {
     match faults {
-        Faults::Doubled(names) => refused_names(alloc, history, "doubled", names),
-        Faults::NoSource(names) => refused_names(alloc, history, "no source", names),
-        Faults::NotAbove(faults) => refused_not_above(alloc, history, faults),
+        Faults::Doubled(names) => Ok(refused_names(alloc, history, "doubled", names)?),
+        Faults::NoSource(names) => Ok(refused_names(alloc, history, "no source", names)?),
+        Faults::NotAbove(faults) => Ok(refused_not_above(alloc, history, faults)?),
         Faults::Stale(faults) => refused_stale(alloc, history, faults),
     }
 }
@@ -140,7 +140,7 @@ pub fn report(alloc: Global, history: &History, verdict: &Verdict) -> Result<Vec
     ensures { IfOk result (λ text. IsReport history.now.sessions verdict.now text.items) }
 {
     match verdict {
-        Verdict::Accepted(_) => accepted(alloc, history),
-        Verdict::Refused(faults) => refusal(alloc, history, faults),
+        Verdict::Accepted(_) => Ok(accepted(alloc, history)?.into_bytes()),
+        Verdict::Refused(faults) => Ok(refusal(alloc, history, faults)?.into_bytes()),
     }
 }

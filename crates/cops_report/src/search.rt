@@ -8,7 +8,7 @@ ghost use Rattle.cops_types.specs.declared.op.OpName.{OpName};
 ghost use Rattle.cops_types.specs.declared.versioned_put.VersionedPut.{VersionedPut};
 ghost use Rattle.cops_report.specs.Puts.{HasPut, HasAllPuts};
 ghost use Rattle.cops_report.specs.Marks.{Gains, HasPlace, IsMarked, IsNearer, open_places, PlacesAll, SessionsMarked};
-ghost use Rattle.cops_report.specs.Searches.{IsFound, IsLevel, IsRising, IsSearch};
+ghost use Rattle.cops_report.specs.Searches.{HasReached, IsFound};
 
 use crate::marks::{Mark, Marks};
 use crate::puts::from_version;
@@ -71,36 +71,6 @@ fn mark_session(
     Ok(())
 }
 
-/// Marks the puts that `mark.next` returned. `puts` are in order of versions and begin with those of its version.
-fn mark_holders(
-    history: &History,
-    puts: &[VersionedPut],
-    version: Version,
-    marks: &mut Marks,
-    names: &mut Vec<OpName>,
-    mark: Mark,
-) -> Result<(), AllocError>
-    requires rising { IsNonDecreasingBy (λ p. p.version) puts.now }
-    requires low { (k : ℕ) (d : VersionedPut) → k < length puts.now →
-        version ≤ (slice_index_or puts.now k d).version }
-    requires all { (n : OpName) → SourceStep history.now.sessions n mark.next → HasPut puts.now n version }
-    requires places { PlacesAll marks.old history.now.sessions }
-    ensures gains { OnOk result
-        (Gains history.now.sessions mark marks.old marks.new names.old.items names.new.items) }
-    ensures all { OnOk result ((n : OpName) →
-        SourceStep history.now.sessions n mark.next → IsMarked marks.new n) }
-{
-    for put in puts {
-        if put.version.as_u64() != version.as_u64() {
-            return Ok(());
-        }
-        if history.is_source(put.name, mark.next) {
-            mark_new(marks, names, put.name, mark)?;
-        }
-    }
-    Ok(())
-}
-
 /// Marks the puts that `mark.next` returned.
 fn mark_sources(
     history: &History,
@@ -116,13 +86,19 @@ fn mark_sources(
     ensures all { OnOk result ((n : OpName) →
         SourceStep history.now.sessions n mark.next → IsMarked marks.new n) }
 {
-    match history.got_version(mark.next) {
-        Some(version) => {
-            let holders = from_version(puts, version);
-            mark_holders(history, holders, version, marks, names, mark)
+    let Some(version) = history.got_version(mark.next) else {
+        return Ok(());
+    };
+    let holders = from_version(puts, version);
+    for put in holders {
+        if put.version.as_u64() != version.as_u64() {
+            return Ok(());
         }
-        None => Ok(()),
+        if history.is_source(put.name, mark.next) {
+            mark_new(marks, names, put.name, mark)?;
+        }
     }
+    Ok(())
 }
 
 /// Marks the operations from which one step leads to `mark.next`.
@@ -146,38 +122,38 @@ fn mark_before(
     Ok(())
 }
 
-/// Marks the operations from which one step leads to a name of the level. These are the next level.
+/// The names from which `steps` steps lead to the end of the search, and no fewer, in order.
+#[derive(Drop)]
+struct Level {
+    steps: u32,
+    names: Vec<OpName>,
+}
+
+/// Marks the operations from which one step leads to a name of the level, and gives the next level.
 fn mark_level(
     alloc: Global,
     history: &History,
     puts: &[VersionedPut],
     marks: &mut Marks,
-    level: &[OpName],
-    steps: u32,
-) -> Result<Vec<OpName>, AllocError>
-    requires fits { steps ≤ MAX_OPS }
+    level: &Level,
+) -> Result<Level, AllocError>
+    requires fits { level.now.steps ≤ MAX_OPS }
     requires puts { HasAllPuts history.now.sessions puts.now }
-    requires places { PlacesAll marks.old history.now.sessions }
-    requires level { IsLevel marks.old steps level.now }
-    requires fresh { IsLevel marks.old (steps + 1) [] }
-    requires rising { IsRising level.now }
-    requires begun { (to : OpName) × IsSearch history.now.sessions to marks.old steps [] }
-    ensures search { IfOk result (λ _. (to : OpName) → IsSearch history.now.sessions to marks.old steps []
-        → IsSearch history.now.sessions to marks.new steps level.now) }
-    ensures next { IfOk result (λ v. IsLevel marks.new (steps + 1) v.items) }
-    ensures same { IfOk result (λ _. IsLevel marks.new steps level.now) }
-    ensures count { IfOk result (λ v. open_places marks.new + length v.items ≡ open_places marks.old) }
-    ensures places { IfOk result (λ _. PlacesAll marks.new history.now.sessions) }
+    requires begun { (to : OpName) × HasReached history.now.sessions to marks.old level.now }
+    ensures next { IfOk result (λ next. (to : OpName) → HasReached history.now.sessions to marks.old level.now
+        → HasReached history.now.sessions to marks.new next) }
+    ensures steps { IfOk result (λ next. next.steps ≡ level.now.steps + 1) }
+    ensures count { IfOk result (λ next. open_places marks.new + length next.names.items ≡ open_places marks.old) }
 {
+    let steps = level.steps + 1;
+    let reached = level.names.as_slice();
     let mut names = Vec::new(alloc);
-    for next in level {
-        let mark = Mark {
-            steps: steps + 1,
-            next: *next,
-        };
+    for next in reached {
+        let mark = Mark { steps, next: *next };
         mark_before(history, puts, marks, &mut names, mark)?;
     }
-    Ok(names)
+    names.sort_unstable();
+    Ok(Level { steps, names })
 }
 
 /// The marks of a backward search from `to`, which ends when it reaches `from` or has marked all operations from which
@@ -195,12 +171,10 @@ pub fn search(
 {
     let mut marks = Marks::new(alloc, history)?;
     marks.set(to, Mark { steps: 0, next: to });
-    let mut level = vec![in alloc; to]?;
-    let mut steps = 0u32;
-    while !level.is_empty() && marks.get(from).is_none() {
-        level = mark_level(alloc, history, puts, &mut marks, &level, steps)?;
-        level.sort_unstable();
-        steps += 1;
+    let names = vec![in alloc; to]?;
+    let mut level = Level { steps: 0, names };
+    while !level.names.is_empty() && marks.get(from).is_none() {
+        level = mark_level(alloc, history, puts, &mut marks, &level)?;
     }
     Ok(marks)
 }

@@ -1,22 +1,15 @@
-use Rattle.std.proofs.Common.{sym, subst}
-use Rattle.cops_batch.specs.Pieces.{IsCut}
-use Rattle.cops_batch.proofs.Cuts.{cut_same}
+use Rattle.std.proofs.Common.{rules}
+use Rattle.cops_batch.proofs.Cuts.{pieces_same}
 use Rattle.cops_batch.proofs.batch.judge_gets.Goals as goal
 
-pub joined_before_stale-requires-clause-cut : goal.joined_before_stale-requires-clause-cut
-joined_before_stale-requires-clause-cut g c κs within =
-    cut_same 0 0 _ c.args.pieces.now c.round_before_stale.new.pieces c.round_before_stale.ensures.len c.round_before_stale.ensures.places c.requires.cut
+pub joined_before_stale-requires-clause-pieces : goal.joined_before_stale-requires-clause-pieces
+joined_before_stale-requires-clause-pieces g c κs within = pieces_same (search rules) c.requires.pieces
 
-pub judge_stale-requires-clause-cut : goal.judge_stale-requires-clause-cut
-judge_stale-requires-clause-cut g c κs within =
-    cut_same 0 0 _ c.args.pieces.now c.round_before_stale.new.pieces c.round_before_stale.ensures.len c.round_before_stale.ensures.places c.requires.cut
+pub judge_stale-requires-clause-pieces : goal.judge_stale-requires-clause-pieces
+judge_stale-requires-clause-pieces g c κs within = pieces_same (search rules) c.requires.pieces
 
-pub last_round-requires-clause-cut : goal.last_round-requires-clause-cut
-last_round-requires-clause-cut g c κs within =
-    subst (IsCut 0 0 c.round_before_stale.new.pieces) (sym c.count-count.ensures.count)
-    (cut_same 0 0 _ c.args.pieces.now c.round_before_stale.new.pieces c.round_before_stale.ensures.len c.round_before_stale.ensures.places c.requires.cut)
+pub last_round-requires-clause-pieces : goal.last_round-requires-clause-pieces
+last_round-requires-clause-pieces g c κs within = (_, pieces_same (search rules) c.requires.pieces)
 
-pub last_round-requires-in-Err-clause-cut : goal.last_round-requires-in-Err-clause-cut
-last_round-requires-in-Err-clause-cut g c κs within =
-    subst (IsCut 0 0 c.round_before_stale.new.pieces) (sym c.count-count.ensures.count)
-    (cut_same 0 0 _ c.args.pieces.now c.round_before_stale.new.pieces c.round_before_stale.ensures.len c.round_before_stale.ensures.places c.requires.cut)
+pub last_round-requires-in-Err-clause-pieces : goal.last_round-requires-in-Err-clause-pieces
+last_round-requires-in-Err-clause-pieces g c κs within = (_, pieces_same (search rules) c.requires.pieces)

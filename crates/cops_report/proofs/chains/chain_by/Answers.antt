@@ -8,15 +8,12 @@ none_is : (o : Option Mark) → is_some o ≡ false → o ≡ None
 none_is (Some m) e = absurd cc
 none_is None e = refl
 
-false_not_true : false ≡ true → ⊥
-false_not_true e = cc
-
 pub returns-then-not-is_named : goal.returns-then-not-is_named
 returns-then-not-is_named c = λ names chain.
     let named = chain_names c.args.history.now.sessions c.args.from c.args.to names chain in
     elim c.then-not-is_named.branch [
-      | then-not-is_named-via-then-not-is_named w ↦ absurd (false_not_true (w.if-not-is_named.ensures.1 named.0))
-      | then-not-is_named-via-else-not-is_named+then-not-is_named-2 w ↦ absurd (false_not_true (w.if-not-is_named-2.ensures.1 named.1))
+      | then-not-is_named-via-then-not-is_named w ↦ absurd (let e : false ≡ true = w.if-not-is_named.ensures.1 named.0 in cc)
+      | then-not-is_named-via-else-not-is_named+then-not-is_named-2 w ↦ absurd (let e : false ≡ true = w.if-not-is_named-2.ensures.1 named.1 in cc)
     ]
 
 pub returns-then-is_none : goal.returns-then-is_none

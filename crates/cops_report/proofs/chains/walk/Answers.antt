@@ -1,30 +1,24 @@
-use Rattle.std.proofs.Common.{◌≡◌, ◌<◌, ◌-◌, ◌∙◌, Option, Some, arith, refl, sym, subst, ap}
+use Rattle.std.proofs.Common.{◌≡◌, ◌-◌, ◌∙◌, Some, arith, refl, sym, subst, ap}
 use Rattle.std.specs.Prelude.{IsSome}
 use Rattle.cops_report.specs.declared.marks.Mark.{Mark}
 use Rattle.cops_report.specs.Searches.{HasSteps}
 use Rattle.cops_report.proofs.ChainLemmas.{walk_end, walk_more}
 use Rattle.cops_report.proofs.chains.walk.Goals as goal
 
-some_is : (o : Option Mark) (m : Mark) → o ≡ Some m → IsSome o
-some_is o m e = subst IsSome (sym e) refl
-
-same_mark : (o : Option Mark) (a b : Mark) → o ≡ Some a → o ≡ Some b → a ≡ b
-same_mark o a b e f = (let g : Some a ≡ Some b = sym e ∙ f in cc)
-
 pub unwrap-mark-requires-in-loop-mark : goal.unwrap-mark-requires-in-loop-mark
 unwrap-mark-requires-in-loop-mark c =
     let inv = c.loop-mark.invariant in
     let next = c.requires.back.next inv.0 c.loop-mark.mark (c.loop-mark.mark.steps - 1) inv.1 (omega (arith, c.loop-mark-test.true)) in
-    some_is c.get-in-loop-mark.result next.0 (c.get-in-loop-mark.ensures ∙ next.1)
+    subst IsSome (sym (c.get-in-loop-mark.ensures ∙ next.1)) refl
 
 pub loop-mark-smaller : goal.loop-mark-smaller
 loop-mark-smaller c =
     let inv = c.loop-mark.invariant in
     let next = c.requires.back.next inv.0 c.loop-mark.mark (c.loop-mark.mark.steps - 1) inv.1 (omega (arith, c.loop-mark-test.true)) in
-    let same = same_mark c.get-in-loop-mark.result c.unwrap-mark-in-loop-mark.result next.0 c.unwrap-mark-in-loop-mark.ensures (c.get-in-loop-mark.ensures ∙ next.1) in
-    let steps : c.unwrap-mark-in-loop-mark.result.steps ≡ c.loop-mark.mark.steps - 1 = ap (λ (m : Mark). m.steps) same ∙ next.2 in
-    let less : c.unwrap-mark-in-loop-mark.result.steps < c.loop-mark.mark.steps = omega (arith, c.loop-mark-test.true) in
-    less
+    let same : Some c.unwrap-mark-in-loop-mark.result ≡ Some next.0 = sym c.unwrap-mark-in-loop-mark.ensures ∙ c.get-in-loop-mark.ensures ∙ next.1 in
+    let is : c.unwrap-mark-in-loop-mark.result ≡ next.0 = cc in
+    let steps : c.unwrap-mark-in-loop-mark.result.steps ≡ c.loop-mark.mark.steps - 1 = ap (λ (m : Mark). m.steps) is ∙ next.2 in
+    omega (arith, c.loop-mark-test.true)
 
 pub loop-mark-preserved : goal.loop-mark-preserved
 loop-mark-preserved c =

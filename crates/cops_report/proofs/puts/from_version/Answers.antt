@@ -4,18 +4,13 @@ use Rattle.cops_types.specs.declared.versioned_put.VersionedPut.{VersionedPut}
 use Rattle.cops_report.proofs.PutLemmas.{Parts, from_all, from_low, is_before}
 use Rattle.cops_report.proofs.puts.from_version.Goals as goal
 
+parts : (c : goal.After-result-1) → Parts c.args.version c.args.puts.now c.partition_point-start.result
+parts c =
+    IsPartitionPoint-from_clause (is_before c.args.version) c.args.puts.now c.partition_point-start.result c.partition_point-start.ensures.partitioned
+    (IsPartitionedBy-ltb (λ (p : VersionedPut). p.version) c.args.puts.now c.args.version c.requires) (λ a r q k. search rules)
+
 pub returns-clause-low : goal.returns-clause-low
-returns-clause-low c =
-    let puts = c.args.puts.now in
-    let i = c.partition_point-start.result in
-    let parts : Parts c.args.version puts i = IsPartitionPoint-from_clause (is_before c.args.version) puts i c.partition_point-start.ensures.partitioned
-    (IsPartitionedBy-ltb (λ (p : VersionedPut). p.version) puts c.args.version c.requires) (λ a r q k. search rules) in
-    from_low puts c.args.version i parts
+returns-clause-low c = from_low c.args.puts.now c.args.version c.partition_point-start.result (parts c)
 
 pub returns-clause-all : goal.returns-clause-all
-returns-clause-all c =
-    let puts = c.args.puts.now in
-    let i = c.partition_point-start.result in
-    let parts : Parts c.args.version puts i = IsPartitionPoint-from_clause (is_before c.args.version) puts i c.partition_point-start.ensures.partitioned
-    (IsPartitionedBy-ltb (λ (p : VersionedPut). p.version) puts c.args.version c.requires) (λ a r q k. search rules) in
-    from_all puts c.args.version i parts
+returns-clause-all c = from_all c.args.puts.now c.args.version c.partition_point-start.result (parts c)
