@@ -1,7 +1,7 @@
 -- Where each put's version is above all versions that its session put or got before, steps have no cycle.
-use Rattle.std.proofs.Common.{◌≡◌, ◌<◌, ◌≤◌, ◌⊎◌, ℕ, Some, refl, sym, ◌∙◌, ap, inl, inr, arith}
+use Rattle.std.proofs.Common.{rules, ◌≡◌, ◌<◌, ◌≤◌, ◌⊎◌, ℕ, refl, sym, ◌∙◌, ap, inl, inr, arith}
 use Rattle.cops_types.specs.declared.op.OpName.{OpName}
-use Rattle.cops_types.specs.Histories.{Sessions, op_at, PutsVersion, write, read}
+use Rattle.cops_types.specs.Histories.{Sessions, PutsVersion}
 use Rattle.cops_types.specs.Operations.{GetsVersion}
 use Rattle.cops_types.specs.Past.{Step, Past, step, more}
 use Rattle.cops_types.specs.Faults.{IsNotBelow}
@@ -11,15 +11,11 @@ same_name a b c i = ap (λ (p : ℕ × ℕ). let n : OpName = record { client = 
 
 -- no operation is both a put and a get
 pub put_is_no_get : (h : Sessions) (p g : OpName) (v w : ℕ) → PutsVersion h p v → GetsVersion h g w → p ≡ g → ⊥
-put_is_no_get h p g v w put got e =
-    let at : Some (write put.0 put.1 v) ≡ Some (read got.0 got.1 w) = sym put.2 ∙ ap (op_at h) e ∙ got.2 in
-    cc
+put_is_no_get h p g v w put got e = search rules
 
 -- a put has one version
 pub one_version : (h : Sessions) (p q : OpName) (v w : ℕ) → PutsVersion h p v → PutsVersion h q w → p ≡ q → v ≡ w
-one_version h p q v w first second e =
-    let at : Some (write first.0 first.1 v) ≡ Some (write second.0 second.1 w) = sym first.2 ∙ ap (op_at h) e ∙ second.2 in
-    cc
+one_version h p q v w first second e = search rules
 
 -- two operations of one session, the first at or before the second
 abbrev pub AtOrBefore : OpName → OpName → Type 0

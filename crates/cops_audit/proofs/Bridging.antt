@@ -1,5 +1,5 @@
 -- What causal summaries say of a history, for sweeps: steps, pasts and newest puts.
-use Rattle.std.proofs.Common.{◌≡◌, ◌<◌, ◌≤◌, ℕ, zero, suc, List, [], ◌∷◌, length, get_or, Some, refl, sym, ◌∙◌, ap, subst, inl, inr, arith, slice_index_or, slice_get}
+use Rattle.std.proofs.Common.{rules, ◌≡◌, ◌<◌, ◌≤◌, ℕ, zero, suc, List, [], ◌∷◌, length, get_or, Some, refl, ◌∙◌, ap, subst, inl, inr, arith, slice_index_or, slice_get}
 use Rattle.std.proofs.lemmas.Bool.{cases_lt}
 use Rattle.cops_types.specs.declared.op.OpName.{OpName}
 use Rattle.cops_types.specs.Histories.{Sessions, IsNamed, SourceStep}
@@ -15,7 +15,7 @@ use Rattle.cops_audit.specs.declared.summaries.OpPlace.TheVariants.{Put, Got, So
 use Rattle.cops_audit.specs.declared.window.Suspect.{Suspect}
 use Rattle.cops_audit.specs.Analyses.{IsAnalysis}
 use Rattle.cops_audit.specs.KeyIndexes.{IsKeyIndex}
-use Rattle.cops_audit.specs.Keys.{AreFirsts, AreNexts, KnowsFirsts, OnKey}
+use Rattle.cops_audit.specs.Keys.{AreFirsts, OnKey}
 use Rattle.cops_audit.specs.declared.analysis.Analysis.{Analysis}
 use Rattle.cops_audit.specs.declared.key_index.KeyIndex.{KeyIndex}
 use Rattle.cops_audit.specs.Summaries.{AreMarks, IsSummarized, StandsAt, summary_at}
@@ -178,15 +178,4 @@ analysis_suspect a is = summarized_suspect a.history.now.sessions a.table.now is
 pub is_analysis : (a : Analysis) (table : List VersionedPut) (keys : KeyIndex) → a.table.now ≡ table → a.nexts.now ≡ keys.nexts.items → a.by_key.now ≡ keys.by_key.items → a.firsts.now ≡ keys.firsts.items
     → IsVersionTable a.history.now.sessions table → IsSummarized a.history.now.sessions table a.summaries.now → IsKeyIndex a.history.now table keys
     → HaveSourcesOrWait a.history.now.sessions → AllAbove a.history.now.sessions → IsWithinLimits a.history.now.sessions → IsAnalysis a
-is_analysis a table keys same nexts by_key firsts is summarized linked sources above limits =
-    let h = a.history.now.sessions in
-    record {
-      table = subst (IsVersionTable h) (sym same) is;
-      summaries = subst (λ (t : List VersionedPut). IsSummarized h t a.summaries.now) (sym same) summarized;
-      nexts = subst (λ (t : List VersionedPut). AreNexts h t a.nexts.now) (sym same) (subst (AreNexts h table) (sym nexts) linked.nexts);
-      by_key = subst (λ (t : List VersionedPut). KnowsFirsts a.history.now t a.by_key.now) (sym same) (subst (KnowsFirsts a.history.now table) (sym by_key) linked.by_key);
-      firsts = subst (λ (t : List VersionedPut). AreFirsts h t a.firsts.now) (sym same) (subst (AreFirsts h table) (sym firsts) linked.firsts);
-      sources = sources;
-      above = above;
-      limits = limits;
-    }
+is_analysis a table keys same nexts by_key firsts is summarized linked sources above limits = search rules

@@ -1,6 +1,5 @@
 -- Puts on one key, linked from one to the next; and suspects that are cleared by what is counted.
-use Rattle.std.proofs.Common.{◌≡◌, ◌<◌, ◌≤◌, ◌+◌, ℕ, Bool, List, [], length, get_or, Some, None, true, false, zero, suc, replicate, sym, ◌∙◌, ap, subst, inl, inr, arith, slice_get, slice_index, slice_index_or, slice_set}
-use Rattle.std.proofs.Math.Nat.{eq-or-lt_of_le}
+use Rattle.std.proofs.Common.{rules, ◌≡◌, ◌<◌, ◌≤◌, ◌+◌, ℕ, Bool, List, [], length, get_or, Some, None, true, false, zero, suc, replicate, sym, ◌∙◌, ap, subst, inl, inr, arith, slice_get, slice_index, slice_index_or, slice_set}
 use Rattle.std.proofs.lemmas.Bool.{cases_lt, cases_order}
 use Rattle.cops_types.specs.declared.op.OpName.{OpName}
 use Rattle.cops_types.specs.Histories.{Sessions}
@@ -114,7 +113,4 @@ put_inside table summaries rising place put version stands = elim (cases_lt put.
 -- one more put is passed
 pub passed_next : (table : List VersionedPut) (old new : List ℕ) (place : ℕ) (put : OpName) (version : ℕ) → StandsAt table place put version → ArePassed table old place → ((k : ℕ) → slice_index old k ≤ slice_index new k)
     → Counted new put → ArePassed table new (place + 1)
-passed_next table old new place put version stands passed kept there other q w less at = elim (eq-or-lt_of_le (let le : other ≤ place = omega (arith, less) in le)) [
-  | inl same ↦ subst (Counted new) (one_put_at table place put q version w stands (subst (λ (p : ℕ). StandsAt table p q w) same at)) there
-  | inr before ↦ omega (arith, passed other q w before at, kept q.client)
-]
+passed_next table old new place put version stands passed kept there other q w less at = search rules

@@ -1,5 +1,5 @@
 -- Clocks whose counts include whole pasts.
-use Rattle.std.proofs.Common.{◌≡◌, ◌≢◌, ◌<◌, ◌≤◌, ◌+◌, ℕ, List, [], ◌∷◌, ◌++◌, length, get_or, map, Some, Vec, Global, sym, ◌∙◌, ap, subst, inl, inr, arith, slice_index, slice_index_or, slice_set}
+use Rattle.std.proofs.Common.{rules, ◌≡◌, ◌≢◌, ◌<◌, ◌≤◌, ◌+◌, ℕ, List, [], ◌∷◌, ◌++◌, length, get_or, map, Some, Vec, Global, sym, ◌∙◌, ap, subst, inl, inr, arith, slice_index, slice_index_or, slice_set}
 use Rattle.std.proofs.Math.ListN.{length-set}
 use Rattle.std.proofs.Math.Nat.{eq-or-lt_of_le}
 use Rattle.std.proofs.lemmas.Bool.{cases_order}
@@ -26,16 +26,7 @@ counted_more old new kept name there = omega (arith, there, kept name.client)
 
 -- one raised count
 pub set_raised : (counts : List ℕ) (i x : ℕ) → i < length counts → slice_index counts i ≤ x → (k : ℕ) → slice_index counts k ≤ slice_index (slice_set counts i x) k
-set_raised counts i x inside le k = elim (cases_order k i) [
-  | inl same ↦
-      let a : get_or (slice_set counts i x) k 0 ≡ x = ap (λ (n : ℕ). get_or (slice_set counts i x) n 0) same ∙ get_or-set_same counts i x 0 inside in
-      let b : get_or counts k 0 ≡ get_or counts i 0 = ap (λ (n : ℕ). get_or counts n 0) same in
-      omega (arith, a, b, le)
-  | inr other ↦
-      let differs : k ≢ i = λ e. elim other [ inl l ↦ omega (arith, l, e) | inr m ↦ omega (arith, m, e) ] in
-      let a = get_or-set_other counts i k x 0 differs in
-      omega (arith, a)
-]
+set_raised counts i x inside le k = search rules
 
 module _ (table : List VersionedPut) (summaries : List (List Summary)) where
   pub knows_none : (counts : List ℕ) (client : ℕ) → Knows table summaries counts client 0
@@ -170,9 +161,7 @@ module _ (table : List VersionedPut) (summaries : List (List Summary)) (c : Cloc
       in_passed = omega (arith, inside, are.known_count, are.passed_width)
 
       rises : (k : ℕ) → slice_index c.passed.items k ≤ slice_index new.passed.items k
-      rises k =
-          let e : get_or new.passed.items k 0 ≡ get_or (slice_set c.passed.items client count) k 0 = ap (λ (l : List ℕ). get_or l k 0) passed in
-          omega (arith, set_raised c.passed.items client count in_passed (omega (arith, next)) k, e)
+      rises k = search rules
 
       now : slice_index new.passed.items client ≡ slice_index c.passed.items client + 1
       now = ap (λ (l : List ℕ). get_or l client 0) passed ∙ get_or-set_same c.passed.items client count 0 in_passed ∙ sym next

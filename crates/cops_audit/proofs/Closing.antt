@@ -1,5 +1,5 @@
 -- A sweep that has nothing left to visit has counted the past above its floor.
-use Rattle.std.proofs.Common.{◌≡◌, ◌<◌, ◌≤◌, ◌+◌, ℕ, List, [], ◌∷◌, length, get_or, Some, refl, sym, ◌∙◌, ap, subst, inl, inr, arith, slice_get, slice_index_or}
+use Rattle.std.proofs.Common.{rules, ◌≡◌, ◌<◌, ◌≤◌, ◌+◌, ℕ, List, [], ◌∷◌, length, get_or, Some, refl, sym, ◌∙◌, ap, subst, inl, inr, arith, slice_get, slice_index_or}
 use Rattle.cops_types.specs.declared.op.OpName.{OpName}
 use Rattle.cops_types.specs.declared.versioned_put.VersionedPut.{VersionedPut}
 use Rattle.cops_audit.specs.declared.summaries.Summary.{Summary}
@@ -21,10 +21,7 @@ module _ (table : List VersionedPut) (summaries : List (List Summary)) (rising :
   own_mark n summary at = (rising.marks n.client n.index summary at).bounds n.index summary (omega arith) at
 
   same_mark : (n : OpName) (x : Summary) (seen : OpPlace) (mark : ℕ) → summary_at summaries n ≡ Some x → summary_at summaries n ≡ Some (let y : Summary = record { seen = seen; mark = mark } in y) → x.mark ≡ mark
-  same_mark n x seen mark a b =
-      let e : Some x ≡ Some (let y : Summary = record { seen = seen; mark = mark } in y) = sym a ∙ b in
-      let e' : x ≡ record { seen = seen; mark = mark } = cc in
-      ap (λ (y : Summary). y.mark) e'
+  same_mark n x seen mark a b = search rules
 
   summary_step_mark : (a b : OpName) (x y : Summary) → SummaryStep table summaries a b → summary_at summaries a ≡ Some x → summary_at summaries b ≡ Some y → x.mark ≤ y.mark
   summary_step_mark a b x y (inl s) at_a at_b =

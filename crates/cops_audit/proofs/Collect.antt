@@ -1,5 +1,5 @@
 -- A loop over the names that collects the faults of a class.
-use Rattle.std.proofs.Common.{◌≡◌, ◌<◌, ◌≤◌, ◌+◌, ◌↔◌, ℕ, zero, suc, List, [], ◌∷◌, ◌++◌, length, get_or, take, take_all, refl, sym, ◌∙◌, ap, subst, inl, inr, arith, Contains, AllPairs}
+use Rattle.std.proofs.Common.{rules, ◌≡◌, ◌<◌, ◌≤◌, ◌+◌, ◌↔◌, ℕ, zero, suc, List, [], ◌∷◌, ◌++◌, length, get_or, take, take_all, refl, sym, ◌∙◌, ap, subst, inl, inr, arith, Contains, AllPairs}
 use Rattle.std.proofs.Math.Nat.{eq-or-lt_of_le}
 use Rattle.std.proofs.lemmas.List.Quantifiers.{all_pairs_push}
 use Rattle.std.proofs.lemmas.List.Elements.{Contains-append_left, Contains-push, Contains-push_cases, Contains-get_or}
@@ -13,10 +13,7 @@ use Rattle.cops_audit.specs.Names.{ListsAmong}
 
 module _ {A : Type 0} (name_of : A → OpName) (IsFault : A → Type 0) where
   pub among_none : ListsAmong name_of IsFault [] []
-  among_none = record {
-    members = λ x. ((λ at. absurd (omega (arith, at.1))), (λ w. absurd (omega (arith, w.1.1))));
-    in_order = λ i j d less inside. absurd (omega (arith, inside));
-  }
+  among_none = search rules
 
   -- a name without a fault
   pub among_skip : (names : List OpName) (n : OpName) (faults : List A) → ListsAmong name_of IsFault names faults
@@ -54,24 +51,15 @@ module _ {A : Type 0} (name_of : A → OpName) (IsFault : A → Type 0) where
 
   -- among any names, where there is no fault
   pub among_faultless : (names : List OpName) → ((x : A) → ¬ IsFault x) → (faults : List A) → faults ≡ [] → ListsAmong name_of IsFault names faults
-  among_faultless names none faults empty = subst (ListsAmong name_of IsFault names) (sym empty) (record {
-    members = λ x. ((λ at. absurd (omega (arith, at.1))), (λ w. absurd (none x w.0)));
-    in_order = λ i j d less inside. absurd (omega (arith, inside));
-  })
+  among_faultless names none faults empty = search rules
 
   -- all faults, where there is none
   pub lists_none : ((x : A) → ¬ IsFault x) → (faults : List A) → faults ≡ [] → Lists name_of IsFault faults
-  lists_none none faults empty = subst (Lists name_of IsFault) (sym empty) (record {
-    members = λ x. ((λ at. absurd (omega (arith, at.1))), (λ fault. absurd (none x fault)));
-    in_order = λ i j d less inside. absurd (omega (arith, inside));
-  })
+  lists_none none faults empty = search rules
 
   pub among_all : (names : List OpName) (faults : List A) → ListsAmong name_of IsFault names faults
       → ((x : A) → IsFault x → Contains names (name_of x)) → Lists name_of IsFault faults
-  among_all names faults lists named = record {
-    members = λ x. ((λ at. ((lists.members x).0 at).0), (λ fault. (lists.members x).1 (fault, named x fault)));
-    in_order = lists.in_order;
-  }
+  among_all names faults lists named = search rules
 
 pub get_or-default : {A : Type 0} (xs : List A) (i : ℕ) (d e : A) → i < length xs → get_or xs i d ≡ get_or xs i e
 get_or-default [] i d e inside = absurd (omega (arith, inside))

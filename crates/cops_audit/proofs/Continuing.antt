@@ -1,7 +1,7 @@
 -- A lasting fault stays, and a clean history is an accepted one.
-use Rattle.std.proofs.Common.{◌≡◌, ◌↔◌, ℕ, List, Some, sym, ◌∙◌, subst, inl, inr}
+use Rattle.std.proofs.Common.{rules, ◌↔◌, ℕ, List, sym, subst, inl, inr}
 use Rattle.cops_types.specs.declared.op.OpName.{OpName}
-use Rattle.cops_types.specs.Histories.{Sessions, PutsVersion, SourceStep, write, read}
+use Rattle.cops_types.specs.Histories.{Sessions, PutsVersion, SourceStep}
 use Rattle.cops_types.specs.Operations.{GetsVersion}
 use Rattle.cops_types.specs.Past.{Step, Past, step, more}
 use Rattle.cops_types.specs.Faults.{HasNoSource, IsNewer, IsNotAbove, IsNotBelow, IsStale}
@@ -33,15 +33,7 @@ module _ (h longer : Sessions) (continues : Continues h longer) where
   past_stays a b (more {by = m} p s) = more (past_stays a m p) (step_stays m b s)
 
   not_below_stays : (e n : OpName) → IsNotBelow h e n → IsNotBelow longer e n
-  not_below_stays e n f = record {
-    version = f.version;
-    own = f.own;
-    put = puts_stay n f.own f.put;
-    has = elim f.has [ inl p ↦ inl (puts_stay e f.version p) | inr g ↦ inr (g.0, g.1, continues e _ g.2) ];
-    same_client = f.same_client;
-    before = f.before;
-    not_below = f.not_below;
-  }
+  not_below_stays e n f = search rules
 
   newer_stays : (n q : OpName) (w : ℕ) → IsNewer h n q w → IsNewer longer n q w
   newer_stays n q w f = record {
@@ -53,10 +45,7 @@ module _ (h longer : Sessions) (continues : Continues h longer) where
 
   -- a source in the longer history was one before, where both operations were in it
   source_was : (put got : OpName) (v w : ℕ) → PutsVersion h put v → GetsVersion h got w → SourceStep longer put got → SourceStep h put got
-  source_was put got v w is_put is_got s =
-      let p : Some (write is_put.0 is_put.1 v) ≡ Some (write s.key s.content s.version) = sym (continues put _ is_put.2) ∙ s.put in
-      let g : Some (read is_got.0 is_got.1 w) ≡ Some (read s.key s.content s.version) = sym (continues got _ is_got.2) ∙ s.got in
-      record { key = s.key; content = s.content; version = s.version; put = is_put.2 ∙ p; got = is_got.2 ∙ g }
+  source_was put got v w is_put is_got s = search rules
 
   pub stays_refused : HasLastingFault h → (puts : List OpName) → ¬ IsAccepted longer puts
   stays_refused (inl d) puts accepted =

@@ -1,6 +1,5 @@
 -- A class of faults is empty or not; and the order of versions.
-use Rattle.std.proofs.Common.{◌≡◌, ◌≢◌, ◌<◌, ℕ, zero, suc, List, [], ◌∷◌, length, get_or, map, eqb, Bool, true, false, Some, sym, ◌∙◌, ap, subst, arith, slice_get, Contains}
-use Rattle.std.proofs.lemmas.Bool.{eqb-true, eq-eqb}
+use Rattle.std.proofs.Common.{rules, ◌≡◌, ◌≢◌, ◌<◌, ℕ, zero, suc, List, [], ◌∷◌, length, get_or, map, eqb, Bool, true, false, Some, sym, ◌∙◌, ap, subst, arith, slice_get, Contains}
 use Rattle.std.proofs.lemmas.List.{length-map, get_or-map}
 use Rattle.cops_types.specs.declared.op.OpName.{OpName}
 use Rattle.cops_types.specs.Histories.{Sessions, Puts, PutsVersion}
@@ -14,15 +13,10 @@ use Rattle.cops_audit.proofs.Collect.{get_or-default}
 
 module _ {A : Type 0} (name_of : A → OpName) (IsFault : A → Type 0) (faults : List A) (empty : Bool) (n : ℕ) where
   pub none_there : Lists name_of IsFault faults → empty ≡ true → empty ≡ eqb n 0 → n ≡ length faults → (x : A) → ¬ IsFault x
-  none_there lists is_empty test len x fault =
-      let e : n ≡ 0 = eqb-true n 0 (sym test ∙ is_empty) in
-      omega (arith, ((lists.members x).1 fault).1, e, len)
+  none_there lists is_empty test len x fault = search rules
 
   pub some_there : empty ≡ false → empty ≡ eqb n 0 → n ≡ length faults → faults ≢ []
-  some_there is_some test len same =
-      let e : n ≡ 0 = len ∙ ap length same in
-      let zero_test : eqb n 0 ≡ true = eq-eqb n 0 e in
-      absurd cc
+  some_there is_some test len same = search rules
 
 pub at_index : {A : Type 0} (xs : List A) (i : ℕ) (x d : A) → slice_get xs i ≡ Some x → (i < length xs) × (get_or xs i d ≡ x)
 at_index [] i x d e = absurd cc

@@ -1,7 +1,7 @@
 -- Accepted exactly where convergent with the version order.
-use Rattle.std.proofs.Common.{◌≡◌, ◌≢◌, ◌<◌, ◌⊎◌, ℕ, zero, suc, List, [], ◌∷◌, Bool, true, false, Option, Some, refl, sym, ◌∙◌, ap, subst, inl, inr, arith, slice_get, Contains}
+use Rattle.std.proofs.Common.{rules, ◌≡◌, ◌≢◌, ◌<◌, ◌⊎◌, ℕ, zero, suc, List, [], ◌∷◌, Bool, true, false, Option, Some, refl, sym, ◌∙◌, ap, subst, inl, inr, arith, slice_get, Contains}
 use Rattle.cops_types.specs.declared.op.OpName.{OpName}
-use Rattle.cops_types.specs.Histories.{Sessions, op_at, IsPut, IsGot, IsMissed, PutsVersion, SessionStep, SourceStep, write, read}
+use Rattle.cops_types.specs.Histories.{Sessions, op_at, IsGot, IsMissed, PutsVersion, SessionStep, SourceStep, write}
 use Rattle.cops_types.specs.Past.{Step, Past, step, more}
 use Rattle.cops_types.specs.Convergence.{Order, Precedes, IsCausalOrder, StandsBefore, IsArbitration, ReturnsLast, Explains, ConvergesBy}
 use Rattle.cops_types.specs.Verdicts.{AllHaveSources, IsAccepted}
@@ -29,9 +29,7 @@ has_place (y ∷ ys) (suc i) x e =
     (suc p.0, omega (arith, p.1), p.2)
 
 one_element : {A : Type 0} (xs : List A) (i j : ℕ) (x y : A) → slice_get xs i ≡ Some x → slice_get xs j ≡ Some y → i ≡ j → x ≡ y
-one_element xs i j x y e f g =
-    let same : Some x ≡ Some y = sym e ∙ ap (slice_get xs) g ∙ f in
-    cc
+one_element xs i j x y e f g = search rules
 
 module _ (h : Sessions) (names : List OpName) (by_version : IsVersionOrder h names) where
   lower_before : (p q : OpName) (v w : ℕ) → PutsVersion h p v → PutsVersion h q w → v < w → StandsBefore names p q
@@ -80,10 +78,7 @@ source_of h sourced got key content version is_got = elim (find_source h got (na
 
 -- the source of a get has the get's version
 pub source_version : (h : Sessions) (s got : OpName) (key : List ℕ) (content : Option (List ℕ)) (version : ℕ) → SourceStep h s got → IsGot h got key content version → PutsVersion h s version
-source_version h s got key content version is_source is_got =
-    let same : Some (read is_source.key is_source.content is_source.version) ≡ Some (read key content version) = sym is_source.got ∙ is_got in
-    let v : is_source.version ≡ version = cc in
-    (is_source.key, is_source.content, subst (λ x. IsPut h s is_source.key is_source.content x) v is_source.put)
+source_version h s got key content version is_source is_got = search rules
 
 module _ (h : Sessions) (names : List OpName) (accepted : IsAccepted h names) where
   rise : VersionsRise h

@@ -1,5 +1,5 @@
 -- A loop over a list in order that collects the elements with a property.
-use Rattle.std.proofs.Common.{◌<◌, ◌+◌, ◌↔◌, ℕ, List, [], ◌∷◌, ◌++◌, length, get_or, take, sym, subst, inl, inr, arith, Contains, AllPairs}
+use Rattle.std.proofs.Common.{rules, ◌<◌, ◌+◌, ◌↔◌, ℕ, List, [], ◌∷◌, ◌++◌, length, get_or, take, sym, subst, inl, inr, Contains, AllPairs}
 use Rattle.std.proofs.lemmas.List.Quantifiers.{all_pairs_push}
 use Rattle.std.proofs.lemmas.List.Elements.{Contains-append_left, Contains-push, Contains-push_cases, Contains-get_or}
 use Rattle.std.proofs.lemmas.List.{take_more}
@@ -12,10 +12,7 @@ pub record HasThose {A : Type 0} (P : A → Type 0) (Le : A → A → Type 0) (x
 
 module _ {A : Type 0} (P : A → Type 0) (Le : A → A → Type 0) where
   pub those_none : HasThose P Le [] []
-  those_none = record {
-    members = λ x. ((λ at. absurd (omega (arith, at.1))), (λ w. absurd (omega (arith, w.0.1))));
-    in_order = λ i j d less inside. absurd (omega (arith, inside));
-  }
+  those_none = search rules
 
   module _ (xs : List A) (in_order : AllPairs Le xs) (i : ℕ) (inside : i < length xs) (out : List A) (d : A) (those : HasThose P Le (take i xs) out) where
     pub those_skip : (P (get_or xs i d) → ⊥) → HasThose P Le (take (i + 1) xs) out

@@ -1,12 +1,10 @@
 -- Capacity for the ranges that are still to be visited.
-use Rattle.std.proofs.Common.{◌≡◌, ◌≢◌, ◌<◌, ◌≤◌, ◌+◌, ℕ, zero, suc, List, [], ◌∷◌, length, get_or, true, false, inl, inr, refl, ap, ◌∙◌, arith, slice_set, slice_index_or, Some, map, Vec, Global, get_or-set_same, get_or-set_other}
+use Rattle.std.proofs.Common.{rules, ◌≡◌, ◌<◌, ◌≤◌, ◌+◌, ℕ, zero, suc, List, [], ◌∷◌, length, get_or, true, false, refl, ap, ◌∙◌, arith, slice_set, slice_index_or, Some, map}
 use Rattle.std.specs.Prelude.{sum_by, vec_len, vec_capacity}
 use Rattle.std.proofs.Math.ListN.{length-set}
-use Rattle.std.proofs.lemmas.Bool.{cases_order}
 use Rattle.std.proofs.lemmas.List.Sums.{sum_by-set, sum_by-cons}
 use Rattle.cops_types.specs.declared.op.OpName.{OpName}
 use Rattle.cops_audit.specs.declared.summaries.Summary.{Summary}
-use Rattle.cops_audit.specs.declared.sweep.OpRange.{OpRange}
 use Rattle.cops_audit.specs.declared.sweep.Sweep.{Sweep}
 use Rattle.cops_types.specs.declared.versioned_put.VersionedPut.{VersionedPut}
 use Rattle.cops_audit.specs.Summaries.{summary_at}
@@ -25,17 +23,7 @@ sum_less (x ∷ xs) (y ∷ ys) len each = omega (arith, each 0, sum_less xs ys (
 module _ (space : ℕ) (lengths : List ℕ) (old : Sweep) (client to : ℕ) (inside : client < length old.counts) (less : get_or old.counts client 0 < to)
     (fits : to ≤ get_or lengths client 0) (room : HasRoom space lengths old) where
   still_within : (c : ℕ) → get_or (slice_set old.counts client to) c 0 ≤ get_or lengths c 0
-  still_within c = elim (cases_order c client) [
-    | inl same ↦
-        let a : get_or (slice_set old.counts client to) c 0 ≡ to = ap (λ (k : ℕ). get_or (slice_set old.counts client to) k 0) same ∙ get_or-set_same old.counts client to 0 inside in
-        let b : get_or lengths c 0 ≡ get_or lengths client 0 = ap (λ (k : ℕ). get_or lengths k 0) same in
-        omega (arith, a, b, fits)
-    | inr other ↦
-        let differs : c ≢ client = λ e. elim other [ inl l ↦ omega (arith, l, e) | inr m ↦ omega (arith, m, e) ] in
-        let a = get_or-set_other old.counts client c to 0 differs in
-        let b = room.within c in
-        omega (arith, a, b)
-  ]
+  still_within c = search rules
 
   sum_rises : sum_by (λ n. n) old.counts + 1 ≤ sum_by (λ n. n) (slice_set old.counts client to)
   sum_rises = omega (arith, sum_by-set (λ (n : ℕ). n) old.counts client to 0 inside, less)
@@ -61,32 +49,12 @@ module _ (space : ℕ) (lengths : List ℕ) (old : Sweep) (client to : ℕ) (ins
 -- the same counts, and the same ranges to visit
 pub room_same : (space : ℕ) (lengths : List ℕ) (old new : Sweep) → new.counts ≡ old.counts → length new.newest ≡ length old.newest → new.pending ≡ old.pending
     → HasRoom space lengths old → HasRoom space lengths new
-room_same space lengths old new counts newest pending room =
-    let sum : sum_by (λ n. n) new.counts ≡ sum_by (λ n. n) old.counts = ap (sum_by (λ n. n)) counts in
-    let len : vec_len new.pending ≡ vec_len old.pending = ap (λ (v : Vec OpRange Global). vec_len v) pending in
-    let capacity : vec_capacity new.pending ≡ vec_capacity old.pending = ap (λ (v : Vec OpRange Global). vec_capacity v) pending in
-    record {
-      width = ap length counts ∙ room.width;
-      within = λ c. let e : get_or new.counts c 0 ≡ get_or old.counts c 0 = ap (λ (l : List ℕ). get_or l c 0) counts in omega (arith, e, room.within c);
-      few = room.few;
-      whole = omega (arith, room.whole, capacity);
-      places = omega (arith, room.places, newest);
-      left = omega (arith, room.left, sum, len, capacity);
-    }
+room_same space lengths old new counts newest pending room = search rules
 
 -- a range is taken from those that are to be visited
 pub room_popped : (space : ℕ) (lengths : List ℕ) (old new : Sweep) → new.counts ≡ old.counts → length new.newest ≡ length old.newest
     → vec_len new.pending ≤ vec_len old.pending → vec_capacity new.pending ≡ vec_capacity old.pending → HasRoom space lengths old → HasRoom space lengths new
-room_popped space lengths old new counts newest len capacity room =
-    let sum : sum_by (λ n. n) new.counts ≡ sum_by (λ n. n) old.counts = ap (sum_by (λ n. n)) counts in
-    record {
-      width = ap length counts ∙ room.width;
-      within = λ c. let e : get_or new.counts c 0 ≡ get_or old.counts c 0 = ap (λ (l : List ℕ). get_or l c 0) counts in omega (arith, e, room.within c);
-      few = room.few;
-      whole = omega (arith, room.whole, capacity);
-      places = omega (arith, room.places, newest);
-      left = omega (arith, room.left, sum, len, capacity);
-    }
+room_popped space lengths old new counts newest len capacity room = search rules
 
 -- the lengths of lists
 pub length_at : {A : Type 0} (xs : List (List A)) (i : ℕ) → get_or (map length xs) i 0 ≡ length (get_or xs i [])

@@ -1,5 +1,5 @@
 -- Suspects that are judged one by one.
-use Rattle.std.proofs.Common.{◌≡◌, ◌≢◌, ◌<◌, ◌≤◌, ◌+◌, ◌-◌, ℕ, zero, suc, List, length, get_or, replicate, Option, Some, None, Vec, Global, refl, sym, ◌∙◌, ap, subst, inl, inr, arith, slice_set, get_or-set_same, get_or-set_other, AllPairs}
+use Rattle.std.proofs.Common.{rules, ◌≡◌, ◌≢◌, ◌<◌, ◌≤◌, ◌+◌, ◌-◌, ℕ, zero, suc, List, length, get_or, replicate, Option, Some, None, Vec, Global, refl, sym, ◌∙◌, ap, subst, inl, inr, arith, slice_set, get_or-set_same, get_or-set_other, AllPairs}
 use Rattle.std.specs.Option.{IfNone, IfSome}
 use Rattle.std.specs.Prelude.{vec_capacity}
 use Rattle.std.proofs.Math.Nat.{eq-or-lt_of_le}
@@ -89,14 +89,7 @@ module _ (table : List VersionedPut) (summaries : List (List Summary)) (firsts :
 
 -- what a sweep knows with a floor it knows with a higher floor
 pub higher_floor : (table : List VersionedPut) (summaries : List (List Summary)) (firsts : List ℕ) (low high : ℕ) (s : Sweep) → low ≤ high → IsSweeping table summaries firsts low s (λ _. ⊥) → IsSweeping table summaries firsts high s (λ _. ⊥)
-higher_floor table summaries firsts low high s le was = record {
-  clients = was.clients;
-  places = was.places;
-  newest = was.newest;
-  open_counted = was.open_counted;
-  pending_counted = was.pending_counted;
-  learned = λ n x there at above. was.learned n x there at (omega (arith, le, above));
-}
+higher_floor table summaries firsts low high s le was = search rules
 
 -- what is in the past of an operation is in the past of the later ones of its session
 pub later_about : (table : List VersionedPut) (summaries : List (List Summary)) (s : Sweep) (a b : OpName) (summary : Summary) → a.client ≡ b.client → a.index < b.index → summary_at summaries b ≡ Some summary → IsAbout table summaries s a → IsAbout table summaries s b

@@ -1,5 +1,5 @@
 -- A loop over names that collects the suspects.
-use Rattle.std.proofs.Common.{◌≡◌, ◌≤◌, ℕ, List, [], ◌∷◌, ◌++◌, length, get_or, sym, ◌∙◌, ap, subst, inl, inr, arith, Contains, AllPairs, append-nil, length-append}
+use Rattle.std.proofs.Common.{rules, ◌≡◌, ◌≤◌, ℕ, List, [], ◌∷◌, ◌++◌, length, get_or, sym, ◌∙◌, ap, subst, inl, inr, arith, Contains, AllPairs, append-nil, length-append}
 use Rattle.std.proofs.lemmas.List.Quantifiers.{all_pairs_push}
 use Rattle.std.proofs.lemmas.List.Elements.{Contains-append_left, Contains-push, Contains-push_cases, Contains-get_or}
 use Rattle.cops_types.specs.declared.op.OpName.{OpName}
@@ -44,15 +44,7 @@ pub record Gathered (h : Sessions) (table : List VersionedPut) (names yielded le
 
 module _ {h : Sessions} {table : List VersionedPut} where
   pub none_gathered : {names left : List OpName} {suspects : List Suspect} → left ≡ names → suspects ≡ [] → Gathered h table names [] left suspects
-  none_gathered whole empty = record {
-    split = sym whole;
-    are = subst (AreSuspects h table []) (sym empty) (record {
-      each = λ s at. absurd (omega (arith, at.1));
-      others = λ name newer version at f. absurd (omega (arith, at.1));
-      in_order = λ i j d less inside. absurd (omega (arith, inside));
-    });
-    few = omega (arith, ap length empty);
-  }
+  none_gathered whole empty = search rules
 
   pub gather_skip : {names yielded left rest : List OpName} {n : OpName} {suspects : List Suspect} → Gathered h table names yielded left suspects → left ≡ n ∷ rest
       → ((newer : OpName) (version : ℕ) → ¬ IsNewer h n newer version) → Gathered h table names (yielded ++ n ∷ []) rest suspects

@@ -1,8 +1,8 @@
 -- Gets and their sources in a table of puts in order of versions.
-use Rattle.std.proofs.Common.{◌≡◌, ◌<◌, ◌≤◌, ℕ, List, get_or, length, Some, sym, ◌∙◌, ap, subst, inl, inr, arith}
+use Rattle.std.proofs.Common.{rules, ◌≡◌, ◌<◌, ◌≤◌, ℕ, List, get_or, length, sym, ap, subst, inl, inr, arith}
 use Rattle.std.proofs.Math.Nat.{eq-or-lt_of_le}
 use Rattle.cops_types.specs.declared.op.OpName.{OpName}
-use Rattle.cops_types.specs.Histories.{Sessions, PutsVersion, SourceStep, read}
+use Rattle.cops_types.specs.Histories.{Sessions, PutsVersion, SourceStep}
 use Rattle.cops_types.specs.Operations.{GetsVersion}
 use Rattle.cops_types.specs.Faults.{HasNoSource}
 use Rattle.cops_types.specs.declared.versioned_put.VersionedPut.{VersionedPut}
@@ -12,9 +12,7 @@ use Rattle.cops_audit.proofs.Places.{inside_table, place_for, place_of_put, same
 
 -- a get has one version
 pub one_get_version : (h : Sessions) (got : OpName) (v w : ℕ) → GetsVersion h got v → GetsVersion h got w → v ≡ w
-one_get_version h got v w a b =
-    let same : Some (read a.0 a.1 v) ≡ Some (read b.0 b.1 w) = sym a.2 ∙ b.2 in
-    cc
+one_get_version h got v w a b = search rules
 
 -- the source of a get is at the place of its version
 pub source_at : (h : Sessions) (table : List VersionedPut) → IsVersionTable h table → (put got : OpName) (v place : ℕ) → GetsVersion h got v → place < length table

@@ -1,5 +1,5 @@
 -- Room for a history that grows.
-use Rattle.std.proofs.Common.{◌≡◌, ◌<◌, ◌≤◌, ◌+◌, ℕ, suc, List, [], ◌∷◌, ◌++◌, length, length-append, get_or, replicate, map, Vec, Global, refl, sym, ◌∙◌, ap, inl, inr, arith, false, slice_index_or}
+use Rattle.std.proofs.Common.{rules, ◌≡◌, ◌<◌, ◌≤◌, ◌+◌, ℕ, suc, List, [], ◌∷◌, ◌++◌, length, length-append, get_or, replicate, map, Vec, Global, refl, sym, ◌∙◌, ap, inl, inr, arith, false, slice_index_or}
 use Rattle.std.specs.Prelude.{Result, Ok, Err, OnOk, sum_by, vec_capacity}
 use Rattle.std.specs.Result.{is_err}
 use Rattle.std.proofs.Math.ListN.{length-set}
@@ -50,16 +50,7 @@ module _ (h : Sessions) (client : ℕ) (op : Operation) (inside : client < lengt
 -- the same room with no less capacity
 pub fits_on : (h : Sessions) (old new : Scratch) (summaries more : Flat) → Fits h old summaries → HasSpace new.space new → old.space ≤ new.space → IsSameButSpace old new
     → new.space ≤ more.summary_room → more.session_room ≡ summaries.session_room → Fits h new more
-fits_on h old new summaries more fits space higher but room sessions = record {
-  ready = record {
-    space = space;
-    enough = omega (arith, fits.ready.enough, higher);
-    counts = ap length but.counts ∙ fits.ready.counts;
-    empty = but.empty fits.ready.empty;
-  };
-  sessions = omega (arith, fits.sessions, sessions);
-  summaries = room;
-}
+fits_on h old new summaries more fits space higher but room sessions = search rules
 
 -- what holds where it succeeds, where it is no error
 pub succeeded : {T E : Type 0} (r : Result T E) (P : Type 0) → OnOk r P → false ≡ is_err r → P

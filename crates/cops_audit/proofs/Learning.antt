@@ -1,5 +1,5 @@
 -- What an operation saw is recorded.
-use Rattle.std.proofs.Common.{◌≡◌, ◌<◌, ◌+◌, ◌-◌, ◌^◌, ℕ, List, length, get_or, Some, refl, sym, ◌∙◌, ap, subst, inl, inr, arith, slice_get, vec_len, Vec, Global}
+use Rattle.std.proofs.Common.{rules, ◌≡◌, ◌<◌, ◌+◌, ◌-◌, ◌^◌, ℕ, List, length, get_or, Some, sym, ◌∙◌, ap, subst, inl, inr, arith, slice_get, vec_len, Vec, Global}
 use Rattle.std.specs.Prelude.{sum_by}
 use Rattle.cops_types.specs.declared.op.OpName.{OpName}
 use Rattle.cops_types.specs.declared.versioned_put.VersionedPut.{VersionedPut}
@@ -12,10 +12,7 @@ use Rattle.cops_audit.specs.Sweeps.{Counted, InSome, Learns, Raises, TakesPut}
 
 -- there is one put at a place
 pub one_put_at : (table : List VersionedPut) (i : ℕ) (p q : OpName) (v w : ℕ) → StandsAt table i p v → StandsAt table i q w → p ≡ q
-one_put_at table i p q v w a b =
-    let e : Some (let x : VersionedPut = record { version = v; name = p } in x) ≡ Some (let x : VersionedPut = record { version = w; name = q } in x) = sym a ∙ b in
-    let r : (let x : VersionedPut = record { version = v; name = p } in x) ≡ record { version = w; name = q } = cc in
-    ap (λ (x : VersionedPut). x.name) r
+one_put_at table i p q v w a b = search rules
 
 put_place : (seen : OpPlace) (p q : ℕ) → seen ≡ Put p → seen ≡ Put q → p ≡ q
 put_place seen p q a b = let e : Put p ≡ Put q = sym a ∙ b in cc
@@ -56,25 +53,4 @@ learns_put table firsts old new seen place is counts pending takes = record {
 
 pub learns_got : (table : List VersionedPut) (firsts : List ℕ) (old new : Sweep) (seen : OpPlace) (place : ℕ) (put : OpName) (version : ℕ) → seen ≡ Got place → StandsAt table place put version
     → Raises old new put.client (put.index + 1) → Learns table firsts old new seen
-learns_got table firsts old new seen place put version is stands raises = record {
-  counts = λ n there. elim (raises.counts n there) [
-    | inl was ↦ inl was
-    | inr now ↦ inr (place, put, version, is, stands, now.0, omega (arith, now.1))
-  ];
-  kept = raises.kept;
-  pending = raises.pending;
-  still = raises.still;
-  pending_counted = raises.pending_counted;
-  clients = raises.width;
-  places = ap length raises.newest;
-  higher = λ first. let e : get_or new.newest first 0 ≡ get_or old.newest first 0 = ap (λ (l : List ℕ). get_or l first 0) raises.newest in omega (arith, e);
-  newest = λ first other at. inl (sym (ap (λ (l : List ℕ). get_or l first 0) raises.newest) ∙ at);
-  learned = record {
-    put = λ other first is' at. absurd (put_no_got seen other place is' is);
-    got = λ other p v is' at.
-        let same : place ≡ other = got_place seen place other is is' in
-        let e : put ≡ p = one_put_at table place put p version v stands (subst (λ (k : ℕ). StandsAt table k p v) (sym same) at) in
-        subst (Counted new.counts) e (raises.raised put refl (omega arith));
-  };
-  work = raises.work;
-}
+learns_got table firsts old new seen place put version is stands raises = search rules

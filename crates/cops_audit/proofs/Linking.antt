@@ -1,28 +1,25 @@
 -- The puts on each key, from the last place down.
-use Rattle.std.proofs.Common.{◌≡◌, ◌≢◌, ◌<◌, ◌+◌, ℕ, zero, suc, List, [], ◌∷◌, length, Some, None, Option, get_or, refl, sym, ◌∙◌, ap, subst, inl, inr, ◌⊎◌, arith, slice_get, slice_set}
+use Rattle.std.proofs.Common.{rules, ◌≡◌, ◌≢◌, ◌<◌, ◌+◌, ℕ, zero, suc, List, [], ◌∷◌, length, Some, None, Option, get_or, refl, sym, ◌∙◌, ap, subst, inl, inr, ◌⊎◌, arith, slice_get, slice_set}
 use Rattle.std.proofs.Math.Nat.{eq-or-lt_of_le}
 use Rattle.cops_types.specs.declared.op.OpName.{OpName}
-use Rattle.cops_types.specs.Histories.{Sessions, op_at, PutsKey, write}
+use Rattle.cops_types.specs.Histories.{Sessions, PutsKey}
 use Rattle.cops_types.specs.declared.versioned_put.VersionedPut.{VersionedPut}
 use Rattle.cops_types.specs.Recorded.{Recorded}
 use Rattle.std.specs.Option.{unwrap_or}
 use Rattle.cops_audit.specs.Keys.{AreKeys, AreNexts, IsFirstFrom, IsNext, LinksTo, OnKey}
 use Rattle.cops_audit.specs.Tables.{IsVersionTable, Rises}
-use Rattle.cops_audit.proofs.Places.{inside_table, same_put_at, stands_item}
+use Rattle.cops_audit.proofs.Places.{inside_table, stands_item}
 use Rattle.cops_audit.proofs.Acyclic.{one_version}
 use Rattle.cops_audit.proofs.Collect.{get_or-default}
 use Rattle.cops_audit.proofs.Unique.{stands}
 
 -- a put has one key
 pub one_key : (h : Sessions) (p q : OpName) (a b : List ℕ) (v w : ℕ) → PutsKey h p a v → PutsKey h q b w → p ≡ q → a ≡ b
-one_key h p q a b v w first second e =
-    let at : Some (write a first.0 v) ≡ Some (write b second.0 w) = sym first.1 ∙ ap (op_at h) e ∙ second.1 in
-    cc
+one_key h p q a b v w first second e = search rules
 
 module _ (h : Sessions) (table : List VersionedPut) (rising : Rises table) where
   pub same_key : (t : ℕ) (a b : List ℕ) → OnKey h table t a → OnKey h table t b → a ≡ b
-  same_key t a b on_a on_b =
-      one_key h on_a.0 on_b.0 a b on_a.1 on_b.1 on_a.3 on_b.3 (same_put_at table rising t on_a.0 on_b.0 on_a.1 on_b.1 on_a.2 on_b.2).0
+  same_key t a b on_a on_b = search rules
 
   -- the first place on the key after a put is the next one on its key
   pub next_is : (k i : ℕ) (key : List ℕ) (found : Option ℕ) → i ≡ k + 1 → OnKey h table k key → IsFirstFrom h table i key found → IsNext h table k found

@@ -1,5 +1,5 @@
 -- The mark of a session: what its operations saw is below it.
-use Rattle.std.proofs.Common.{◌≡◌, ◌<◌, ◌≤◌, ◌+◌, ◌⊎◌, ℕ, zero, suc, List, [], ◌∷◌, ◌++◌, length, Some, refl, sym, ◌∙◌, ap, subst, inl, inr, arith, slice_get}
+use Rattle.std.proofs.Common.{rules, ◌≡◌, ◌<◌, ◌≤◌, ◌+◌, ◌⊎◌, ℕ, zero, suc, List, [], ◌∷◌, ◌++◌, length, Some, refl, sym, ◌∙◌, ap, subst, inl, inr, arith, slice_get}
 use Rattle.cops_audit.specs.declared.summaries.Summary.{Summary}
 use Rattle.cops_audit.specs.Summaries.{above, IsMark}
 
@@ -56,7 +56,4 @@ mark_rises session summary count mark len m high = record {
 
 -- the mark of more operations is not lower
 pub mark_grows : (session : List Summary) (i j m n : ℕ) → IsMark session i m → IsMark session j n → i ≤ j → m ≤ n
-mark_grows session i j m n a b le = elim a.reached [
-  | inl none ↦ omega (arith, none)
-  | inr r ↦ omega (arith, b.bounds r.0 r.1 (omega (arith, r.2, le)) r.3, r.4)
-]
+mark_grows session i j m n a b le = search rules

@@ -1,5 +1,5 @@
 -- Versions in a table of puts, by their places.
-use Rattle.std.proofs.Common.{◌≡◌, ◌≢◌, ◌<◌, ◌≤◌, ◌+◌, ◌-◌, ◌⊎◌, ℕ, zero, suc, List, get_or, length, Some, slice_get, refl, sym, ◌∙◌, ap, subst, inl, inr, arith}
+use Rattle.std.proofs.Common.{rules, ◌≡◌, ◌≢◌, ◌<◌, ◌≤◌, ◌+◌, ◌-◌, ◌⊎◌, ℕ, zero, suc, List, get_or, length, Some, slice_get, refl, sym, ◌∙◌, ap, subst, inl, inr, arith}
 use native.Mathlib.Numerals.{unary_clauses}
 use Rattle.std.specs.List.Sorted.{IsNonDecreasingBy}
 use Rattle.std.proofs.Math.Nat.{eq-or-lt_of_le}
@@ -66,10 +66,7 @@ doubled_at h table t name v put a b d less inside va vb =
 
     -- a name is at one place only
     one_place : (m n : OpName) (i j : ℕ) → i < length table → j < length table → (get_or table i d).name ≡ m → (get_or table j d).name ≡ n → m ≡ n → i ≡ j
-    one_place m n i j in_i in_j at_i at_j same =
-        let not_before : ¬ (i < j) = λ l. t.once i j d l in_j (at_i ∙ same ∙ sym at_j) in
-        let not_after : ¬ (j < i) = λ l. t.once j i d l in_i (at_j ∙ sym same ∙ sym at_i) in
-        omega (arith, not_before, not_after)
+    one_place m n i j in_i in_j at_i at_j same = search rules
 
 -- two neighbouring places with one version, in either order
 pub doubled_by_neighbour : (h : Sessions) (table : List VersionedPut) → IsPutTable h table → (name : OpName) (v : ℕ) → PutsVersion h name v → (k place : ℕ) → k < length table → place < length table
@@ -167,10 +164,7 @@ module _ (table : List VersionedPut) (rising : Rises table) where
       omega (arith, not_before, not_after)
 
   pub same_put_at : (i : ℕ) (p q : OpName) (v w : ℕ) → StandsAt table i p v → StandsAt table i q w → (p ≡ q) × (v ≡ w)
-  same_put_at i p q v w a b =
-      let e : Some (let x : VersionedPut = record { version = v; name = p } in x) ≡ Some (let x : VersionedPut = record { version = w; name = q } in x) = sym a ∙ b in
-      let r : (let x : VersionedPut = record { version = v; name = p } in x) ≡ record { version = w; name = q } = cc in
-      (ap (λ (x : VersionedPut). x.name) r, ap (λ (x : VersionedPut). x.version) r)
+  same_put_at i p q v w a b = search rules
 
 -- the place of a put, from any place of its version
 pub place_for : (h : Sessions) (table : List VersionedPut) → IsVersionTable h table → (p : OpName) (v k : ℕ) → PutsVersion h p v → k < length table → ((d : VersionedPut) → (get_or table k d).version ≡ v) → StandsAt table k p v
@@ -190,7 +184,4 @@ stands_put h table t p v puts =
     (own.0, stands table own.0 d own.1 ∙ ap (λ (x : VersionedPut). Some x) (own.2 d))
 
 pub never_falls : (table : List VersionedPut) → VersionsNeverFall table → IsNonDecreasingBy (λ (p : VersionedPut). p.version) table
-never_falls table in_order i j d le inside = elim (eq-or-lt_of_le le) [
-  | inl same ↦ let e : (get_or table i d).version ≡ (get_or table j d).version = ap (λ (k : ℕ). (get_or table k d).version) same in omega (arith, e)
-  | inr less ↦ in_order i j d less inside
-]
+never_falls table in_order i j d le inside = search rules

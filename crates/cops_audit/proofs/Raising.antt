@@ -1,8 +1,7 @@
 -- Counts that are raised.
-use Rattle.std.proofs.Common.{◌≡◌, ◌≢◌, ◌<◌, ◌≤◌, ◌+◌, ◌-◌, ◌⊎◌, ℕ, List, [], ◌∷◌, ◌++◌, length, get_or, sym, ◌∙◌, ap, subst, inl, inr, arith, slice_set, get_or-set_same, get_or-set_other}
+use Rattle.std.proofs.Common.{rules, ◌≡◌, ◌≢◌, ◌<◌, ◌≤◌, ◌+◌, ◌-◌, ◌⊎◌, ℕ, List, [], ◌∷◌, ◌++◌, length, get_or, sym, ◌∙◌, ap, subst, inl, inr, arith, slice_set, get_or-set_same, get_or-set_other}
 use Rattle.std.specs.Prelude.{sum_by}
 use Rattle.std.proofs.lemmas.Bool.Decides.{eqb_tells}
-use Rattle.std.proofs.lemmas.Bool.{cases_lt}
 use Rattle.std.proofs.lemmas.List.Elements.{Contains-append_left, Contains-push, Contains-push_cases}
 use Rattle.std.proofs.lemmas.List.Sums.{sum_by-set}
 use Rattle.cops_types.specs.declared.op.OpName.{OpName}
@@ -20,29 +19,17 @@ module _ (xs : List ℕ) (c to : ℕ) (inside : c < length xs) where
   at_other n other = get_or-set_other xs c n.client to 0 other
 
   pub counted_then : (n : OpName) → Counted (slice_set xs c to) n → Counted xs n ⊎ ((n.client ≡ c) × (n.index < to))
-  counted_then n there = elim (either n.client c) [
-    | inl same ↦ inr (same, omega (arith, there, at_same n same))
-    | inr other ↦ inl (omega (arith, there, at_other n other))
-  ]
+  counted_then n there = search rules
 
   pub counted_kept : get_or xs c 0 ≤ to → (n : OpName) → Counted xs n → Counted (slice_set xs c to) n
-  counted_kept le n there = elim (either n.client c) [
-    | inl same ↦ let old : get_or xs n.client 0 ≡ get_or xs c 0 = ap (λ (k : ℕ). get_or xs k 0) same in omega (arith, there, at_same n same, old, le)
-    | inr other ↦ omega (arith, there, at_other n other)
-  ]
+  counted_kept le n there = search rules
 
   pub counted_raised : (n : OpName) → n.client ≡ c → n.index < to → Counted (slice_set xs c to) n
   counted_raised n same less = omega (arith, less, at_same n same)
 
   -- what is newly counted is in the range from the old count on
   pub newly_in_range : (n : OpName) → Counted (slice_set xs c to) n → Counted xs n ⊎ InRange (record { client = c; from = get_or xs c 0; to = to }) n
-  newly_in_range n there = elim (either n.client c) [
-    | inl same ↦ elim (cases_lt n.index (get_or xs c 0)) [
-      | inl less ↦ let old : get_or xs n.client 0 ≡ get_or xs c 0 = ap (λ (k : ℕ). get_or xs k 0) same in inl (omega (arith, less, old))
-      | inr le ↦ inr (same, le, omega (arith, there, at_same n same))
-    ]
-    | inr other ↦ inl (omega (arith, there, at_other n other))
-  ]
+  newly_in_range n there = search rules
 
   pub room_falls : (m : ℕ) → get_or xs c 0 < to → to ≤ m → sum_by (λ k. m - k) (slice_set xs c to) + 1 ≤ sum_by (λ k. m - k) xs
   room_falls m less fits = omega (arith, sum_by-set (λ (k : ℕ). m - k) xs c to 0 inside, less, fits)

@@ -1,5 +1,5 @@
 -- Pasts of any history, found by a search.
-use Rattle.std.proofs.Common.{◌≡◌, ◌<◌, ◌≤◌, ◌+◌, ℕ, List, [], ◌∷◌, ◌++◌, length, get_or, refl, sym, ◌∙◌, ap, subst, inl, inr, arith}
+use Rattle.std.proofs.Common.{rules, ◌≡◌, ◌<◌, ◌≤◌, ◌+◌, ℕ, List, [], ◌∷◌, ◌++◌, length, get_or, sym, ◌∙◌, ap, subst, inl, inr, arith}
 use Rattle.std.proofs.Math.Nat.{eq-or-lt_of_le}
 use Rattle.std.proofs.lemmas.Bool.{cases_lt}
 use Rattle.cops_types.specs.declared.op.OpName.{OpName}
@@ -12,7 +12,7 @@ use Rattle.cops_audit.specs.declared.sweep.Sweep.{Sweep}
 use Rattle.cops_audit.specs.Searches.{Finds, IsSearching, TakesSources}
 use Rattle.cops_audit.specs.Sweeps.{Counted, InRange, InSome, Raises}
 use Rattle.cops_audit.specs.Tables.{IsPutTable}
-use Rattle.cops_audit.proofs.Acyclic.{one_version, same_name}
+use Rattle.cops_audit.proofs.Acyclic.{same_name}
 use Rattle.cops_audit.proofs.Closing.{none_in_nothing}
 use Rattle.cops_audit.proofs.Gets.{one_get_version}
 use Rattle.cops_audit.proofs.Places.{place_of_put, put_at}
@@ -40,35 +40,14 @@ module _ (h : Sessions) where
   }
 
   pub takes_nothing : (name : OpName) (s : Sweep) → TakesSources h name s s
-  takes_nothing name s = record {
-    clients = refl;
-    kept = λ n there. there;
-    past = λ n there. inl there;
-    pending = λ n there. inl there;
-    still = λ n there. there;
-    pending_counted = λ n there. inl there;
-  }
+  takes_nothing name s = search rules
 
   pub takes_on : (name : OpName) (a b c : Sweep) → TakesSources h name a b → TakesSources h name b c → TakesSources h name a c
-  takes_on name a b c f g = record {
-    clients = g.clients ∙ f.clients;
-    kept = λ n there. g.kept n (f.kept n there);
-    past = λ n there. elim (g.past n there) [ inl was ↦ f.past n was | inr p ↦ inr p ];
-    pending = λ n there. elim (g.pending n there) [
-      | inl was ↦ elim (f.pending n was) [ inl first ↦ inl first | inr p ↦ inr (g.still n p) ]
-      | inr p ↦ inr p
-    ];
-    still = λ n there. g.still n (f.still n there);
-    pending_counted = λ n there. elim (g.pending_counted n there) [
-      | inl was ↦ elim (f.pending_counted n was) [ inl first ↦ inl first | inr now ↦ inr (g.kept n now) ]
-      | inr now ↦ inr now
-    ];
-  }
+  takes_on name a b c f g = search rules
 
   -- the sources of a get have its version
   source_version : (put name : OpName) (own version : ℕ) → PutsVersion h put own → GetsVersion h name version → SourceStep h put name → own ≡ version
-  source_version put name own version puts gets s =
-      one_version h put put own s.version puts (s.key, s.content, s.put) refl ∙ one_get_version h name s.version version (s.key, s.content, s.got) gets
+  source_version put name own version puts gets s = search rules
 
   -- the sources at the places so far are counted
   abbrev pub CountedTo : List VersionedPut → OpName → ℕ → Sweep → Type 0
@@ -128,10 +107,7 @@ module _ (h : Sessions) where
   }
 
   pub search_finds : (old new : Sweep) (name : OpName) → Counted old.counts name → TakesSources h name old new → Finds h old new
-  search_finds old new name there takes = record {
-    kept = takes.kept;
-    past = λ n now. elim (takes.past n now) [ inl was ↦ inl was | inr p ↦ inr (name, there, p) ];
-  }
+  search_finds old new name there takes = search rules
 
   pub finds_on : (a b c : Sweep) → Finds h a b → Finds h b c → Finds h a c
   finds_on a b c f g = record {

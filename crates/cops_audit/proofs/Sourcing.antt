@@ -1,5 +1,5 @@
 -- The places of the sources of pending reads.
-use Rattle.std.proofs.Common.{◌≡◌, ◌<◌, ℕ, List, [], ◌∷◌, ◌++◌, length, get_or, Option, Some, sym, ap, ◌∙◌, subst, inl, inr, arith, slice_get}
+use Rattle.std.proofs.Common.{rules, ◌≡◌, ◌<◌, ℕ, List, [], ◌∷◌, ◌++◌, length, get_or, Option, Some, sym, ap, ◌∙◌, subst, inl, inr, arith, slice_get}
 use Rattle.std.specs.Prelude.{◌⊎◌}
 use Rattle.std.proofs.lemmas.Option.{slice_get_within}
 use Rattle.cops_types.specs.declared.op.OpName.{OpName}
@@ -17,9 +17,7 @@ use Rattle.cops_audit.proofs.Unique.{stands}
 
 -- the get with that name, whose source is at that place
 pub source_seen : (h : Sessions) (table : List VersionedPut) (got : OpName) (op : Operation) (place : ℕ) → IsSourcePlace h table op place → op_at h got ≡ Some op → IsSeen h table got (SeenGot place)
-source_seen h table got op place p at =
-    let is : op_at h got ≡ Some (read p.1 p.2 p.3) = at ∙ ap (λ (o : Operation). Some o) p.6 in
-    (p.0, p.3, p.4, (p.1, p.2, is), record { key = p.1; content = p.2; version = p.3; put = p.5; got = is })
+source_seen h table got op place p at = search rules
 
 -- the put at the place that was looked up
 pub source_stands : (h : Sessions) (table : List VersionedPut) (op : Operation) (place : ℕ) (d : VersionedPut) → place < length table

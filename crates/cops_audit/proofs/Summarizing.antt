@@ -1,5 +1,5 @@
 -- Causal summaries of a session, one operation after the other.
-use Rattle.std.proofs.Common.{◌≡◌, ◌≢◌, ◌<◌, ◌≤◌, ◌+◌, ◌-◌, ℕ, zero, suc, List, [], ◌∷◌, ◌++◌, length, get_or, map, length-append, Some, refl, sym, ◌∙◌, ap, subst, inl, inr, arith, max, slice_get, slice_index_or, slice_set}
+use Rattle.std.proofs.Common.{rules, ◌≡◌, ◌≢◌, ◌<◌, ◌≤◌, ◌+◌, ◌-◌, ℕ, zero, suc, List, [], ◌∷◌, ◌++◌, length, get_or, map, length-append, Some, refl, sym, ◌∙◌, ap, subst, inl, inr, arith, max, slice_get, slice_index_or, slice_set}
 use Rattle.std.proofs.Math.ListN.{length-set}
 use Rattle.std.proofs.Math.Nat.{eq-or-lt_of_le}
 use Rattle.std.proofs.lemmas.Bool.{cases_lt, cases_order}
@@ -157,10 +157,7 @@ summarized_whole h table first end f xs count prefixes whole = record {
 
 -- the summaries of the sessions of all clients
 pub summarized_all : (h : Sessions) (table : List VersionedPut) (first end : ℕ) (summaries : List (List Summary)) → first ≡ 0 → end ≡ length h → AreSummarized h table first end summaries → IsSummarized h table summaries
-summarized_all h table first end summaries from to n = record {
-  clients = omega (arith, n.clients, from, to);
-  sessions = λ client less. subst (λ (c : ℕ). IsSessionSummarized h table c (slice_index_or summaries client [])) (let e : first + client ≡ client = omega (arith, from) in e) (n.sessions client (omega (arith, less, n.clients, from, to)));
-}
+summarized_all h table first end summaries from to n = search rules
 
 pub get_low : {A : Type 0} (xs ys : List A) (k : ℕ) (d : A) → k < length xs → get_or (xs ++ ys) k d ≡ get_or xs k d
 get_low [] ys k d inside = absurd (omega (arith, inside))

@@ -1,5 +1,5 @@
 -- Gets that may be stale, and gets that are not suspects.
-use Rattle.std.proofs.Common.{◌≡◌, ◌≢◌, ◌<◌, ◌≤◌, ℕ, List, Option, Some, None, refl, sym, ◌∙◌, subst, inl, inr, arith}
+use Rattle.std.proofs.Common.{rules, ◌≡◌, ◌≢◌, ◌<◌, ◌≤◌, ℕ, List, Option, Some, None, refl, sym, ◌∙◌, subst, inl, inr, arith}
 use Rattle.cops_types.specs.declared.op.OpName.{OpName}
 use Rattle.cops_types.specs.Histories.{Sessions, IsGot, IsMissed, PutsKey, PutsVersion, read, missed}
 use Rattle.cops_types.specs.Operations.{GetsVersion}
@@ -22,9 +22,7 @@ one_missed_key : (h : Sessions) (n : OpName) (a b : List ℕ) → IsMissed h n a
 one_missed_key h n a b first second = let e : Some (missed a) ≡ Some (missed b) = sym first ∙ second in cc
 
 one_got : (h : Sessions) (n : OpName) (a b : List ℕ) (x y : Option (List ℕ)) (v w : ℕ) → IsGot h n a x v → IsGot h n b y w → (a ≡ b) × (v ≡ w)
-one_got h n a b x y v w first second =
-    let e : Some (read a x v) ≡ Some (read b y w) = sym first ∙ second in
-    (let k : a ≡ b = cc in k, let s : v ≡ w = cc in s)
+one_got h n a b x y v w first second = search rules
 
 module _ (h : Sessions) (table : List VersionedPut) (t : IsVersionTable h table) where
   -- the first place on a key is the first place of each put on it

@@ -1,5 +1,5 @@
 -- A past that is built by walking causal summaries backward.
-use Rattle.std.proofs.Common.{◌≡◌, ◌<◌, ◌≤◌, ◌+◌, ◌⊎◌, ℕ, List, [], ◌∷◌, ◌++◌, length, get_or, Some, None, refl, sym, ◌∙◌, ap, subst, inl, inr, arith, slice_get, slice_index_or, append-nil, Vec, Global}
+use Rattle.std.proofs.Common.{rules, ◌≡◌, ◌<◌, ◌≤◌, ◌+◌, ◌⊎◌, ℕ, List, [], ◌∷◌, ◌++◌, length, get_or, Some, None, refl, sym, ◌∙◌, ap, subst, inl, inr, arith, Vec, Global}
 use Rattle.std.proofs.Math.Nat.{eq-or-lt_of_le}
 use Rattle.cops_types.specs.declared.op.OpName.{OpName}
 use Rattle.cops_types.specs.declared.versioned_put.VersionedPut.{VersionedPut}
@@ -11,7 +11,6 @@ use Rattle.cops_audit.specs.declared.sweep.Sweep.{Sweep}
 use Rattle.cops_audit.specs.Summaries.{StandsAt, above, summary_at}
 use Rattle.cops_audit.specs.Sweeps.{AreRising, Counted, Grows, InRange, InSome, IsLearned, IsSweeping, Learns, SummaryPast, SummaryStep, step, more}
 use Rattle.cops_audit.proofs.Acyclic.{same_name}
-use Rattle.cops_audit.proofs.Marks.{mark_grows}
 use Rattle.cops_audit.proofs.Places.{inside_table}
 use Rattle.cops_audit.proofs.Raising.{in_some_cases, in_some_kept, in_some_last}
 
@@ -44,10 +43,7 @@ one_summary summaries n x y a b = let e : Some x ≡ Some y = sym a ∙ b in cc
 
 module _ (table : List VersionedPut) (summaries : List (List Summary)) (rising : AreRising table summaries) (firsts : List ℕ) (floor : ℕ) where
   learned_still : (old new : Sweep) (seen other : OpPlace) → Learns table firsts old new seen → IsLearned table firsts old other → IsLearned table firsts new other
-  learned_still old new seen other learns was = record {
-    put = λ place first is at. let l : place < get_or old.newest first 0 = was.put place first is at in omega (arith, l, learns.higher first);
-    got = λ place put version is at. learns.kept put (was.got place put version is at);
-  }
+  learned_still old new seen other learns was = search rules
 
   -- the summary of an operation, by what it saw
   as_seen : (n : OpName) (summary : Summary) (seen : OpPlace) → summary_at summaries n ≡ Some summary → summary.seen ≡ seen → summary_at summaries n ≡ Some (let x : Summary = record { seen = seen; mark = summary.mark } in x)
@@ -85,13 +81,7 @@ module _ (table : List VersionedPut) (summaries : List (List Summary)) (rising :
 
       in_range : (n : OpName) (x : Summary) → summary_at summaries n ≡ Some x → InRange (record { client = name.client; from = from; to = name.index + 1 }) n
           → IsLearned table firsts new x.seen ⊎ (InSome new.pending.items n ⊎ InRange (record { client = name.client; from = from; to = name.index }) n)
-      in_range n x at_n range = elim (eq-or-lt_of_le (let le : n.index ≤ name.index = omega (arith, range.2) in le)) [
-        | inl same ↦
-            let e : n ≡ name = same_name n name range.0 same in
-            let x_is : summary ≡ x = one_summary summaries name summary x at (ap (summary_at summaries) (sym e) ∙ at_n) in
-            inl (subst (λ (y : Summary). IsLearned table firsts new y.seen) x_is learns.learned)
-        | inr less ↦ inr (inr (range.0, range.1, less))
-      ]
+      in_range n x at_n range = search rules
 
   -- what is newly counted is in the past of the operation that was recorded
   pub sweep_grows : (old new : Sweep) (name : OpName) (summary : Summary) → summary_at summaries name ≡ Some summary → Counted old.counts name → Learns table firsts old new summary.seen → Grows table summaries old new
@@ -115,46 +105,17 @@ module _ (table : List VersionedPut) (summaries : List (List Summary)) (rising :
   pub sweep_past : (s : Sweep) (name : OpName) (from : ℕ) → summary_at summaries name ≡ None
       → IsSweeping table summaries firsts floor s (InRange (record { client = name.client; from = from; to = name.index + 1 }))
       → IsSweeping table summaries firsts floor s (InRange (record { client = name.client; from = from; to = name.index }))
-  sweep_past s name from none was = record {
-    clients = was.clients;
-    places = was.places;
-    newest = was.newest;
-    open_counted = λ n there. was.open_counted n (there.0, there.1, omega (arith, there.2));
-    pending_counted = was.pending_counted;
-    learned = λ n x counted at_n high. elim (was.learned n x counted at_n high) [
-      | inl learned ↦ inl learned
-      | inr left ↦ elim left [
-        | inl pending ↦ inr (inl pending)
-        | inr range ↦ elim (eq-or-lt_of_le (let le : n.index ≤ name.index = omega (arith, range.2) in le)) [
-          | inl same ↦ let e : None ≡ Some x = sym none ∙ ap (summary_at summaries) (sym (same_name n name range.0 same)) ∙ at_n in absurd cc
-          | inr less ↦ inr (inr (range.0, range.1, less))
-        ]
-      ]
-    ];
-  }
+  sweep_past s name from none was = search rules
 
   -- nothing is left to visit in a range whose marks are not above the floor
   pub none_open : (s : Sweep) (IsOpen : OpName → Type 0) → ((n : OpName) (x : Summary) → IsOpen n → summary_at summaries n ≡ Some x → ¬ (floor < x.mark))
       → IsSweeping table summaries firsts floor s IsOpen → IsSweeping table summaries firsts floor s (λ _. ⊥)
-  none_open s IsOpen low was = record {
-    clients = was.clients;
-    places = was.places;
-    newest = was.newest;
-    open_counted = λ n there. absurd there;
-    pending_counted = was.pending_counted;
-    learned = λ n x counted at high. elim (was.learned n x counted at high) [
-      | inl learned ↦ inl learned
-      | inr left ↦ elim left [ inl pending ↦ inr (inl pending) | inr there ↦ absurd (low n x there at high) ]
-    ];
-  }
+  none_open s IsOpen low was = search rules
 
   -- the rest of a range, where the mark is not above the floor
   pub low_range : (name : OpName) (from : ℕ) (summary : Summary) → summary_at summaries name ≡ Some summary → summary.mark ≤ floor → (n : OpName) (x : Summary)
       → InRange (record { client = name.client; from = from; to = name.index + 1 }) n → summary_at summaries n ≡ Some x → ¬ (floor < x.mark)
-  low_range name from summary at low n x range at_n high =
-      let at' : slice_get (slice_index_or summaries name.client []) n.index ≡ Some x = ap (λ (k : ℕ). slice_get (slice_index_or summaries k []) n.index) (sym range.0) ∙ at_n in
-      let le = mark_grows (slice_index_or summaries name.client []) (n.index + 1) (name.index + 1) x.mark summary.mark (rising.marks name.client n.index x at') (rising.marks name.client name.index summary at) (omega (arith, range.2)) in
-      omega (arith, le, low, high)
+  low_range name from summary at low n x range at_n high = search rules
 
   -- a range is taken from those that are pending
   pub popped : (old new : Sweep) (range : OpRange) → new.counts ≡ old.counts → new.newest ≡ old.newest → old.pending.items ≡ new.pending.items ++ range ∷ []
@@ -185,19 +146,4 @@ module _ (table : List VersionedPut) (summaries : List (List Summary)) (rising :
   -- where no range is pending, nothing changes
   pub none_popped : (old : Sweep) (pending : Vec OpRange Global) → old.pending.items ≡ pending.items ++ [] → IsSweeping table summaries firsts floor old (λ _. ⊥)
       → IsSweeping table summaries firsts floor (record old { pending = pending }) (λ _. ⊥)
-  none_popped old pending same was =
-      let items : old.pending.items ≡ pending.items = same ∙ append-nil pending.items in
-      record {
-        clients = was.clients;
-        places = was.places;
-        newest = was.newest;
-        open_counted = was.open_counted;
-        pending_counted = subst (λ (rs : List OpRange). (n : OpName) → InSome rs n → Counted old.counts n) items was.pending_counted;
-        learned = λ n x counted at high. elim (was.learned n x counted at high) [
-          | inl learned ↦ inl (record { put = learned.put; got = learned.got })
-          | inr left ↦ elim left [
-            | inl there ↦ inr (inl (subst (λ (rs : List OpRange). InSome rs n) items there))
-            | inr none ↦ absurd none
-          ]
-        ];
-      }
+  none_popped old pending same was = search rules
