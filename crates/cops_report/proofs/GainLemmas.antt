@@ -1,5 +1,5 @@
 -- Marks that are set one by one.
-use Rattle.std.proofs.Common.{◌≡◌, ◌∙◌, List, [], ◌∷◌, ◌++◌, Option, Some, None, refl, sym, ap, subst, arith, inl, inr}
+use Rattle.std.proofs.Common.{rules, ◌≡◌, ◌∙◌, List, [], ◌∷◌, ◌++◌, Option, Some, None, refl, sym, ap, subst, arith, inl, inr}
 use Rattle.std.specs.Prelude.{Contains}
 use Rattle.std.proofs.lemmas.List.{length_push}
 use Rattle.std.proofs.lemmas.List.Elements.{Contains-append_left, Contains-push, Contains-push_cases}
@@ -12,14 +12,7 @@ use Rattle.cops_audit.proofs.Differing.{name_cases}
 use Rattle.cops_report.proofs.Tables.{mark_at-other, mark_at-same, open-with_mark, place-with_mark}
 
 pub gains_none : (h : Sessions) (mark : Mark) (t : Table) (names : List OpName) → Gains h mark t t names names
-gains_none h mark t names = record {
-  kept = λ n m e. e;
-  gained = λ n m e. inl e;
-  listed = λ n c. inl c;
-  stays = λ n c. c;
-  count = refl;
-  places = λ n. (λ p. p, λ p. p);
-}
+gains_none h mark t names = search rules
 
 -- what has no mark later had none before
 still_none : (h : Sessions) (mark : Mark) (s t : Table) (names more : List OpName) (n : OpName) → Gains h mark s t names more → mark_at t n ≡ None → mark_at s n ≡ None
@@ -30,20 +23,7 @@ still_none h mark s t names more n g none = go (mark_at s n) refl
     go (Some m) e = (let k = g.kept n m e in absurd cc)
 
 pub gains_more : (h : Sessions) (mark : Mark) (s t u : Table) (names more most : List OpName) → Gains h mark s t names more → Gains h mark t u more most → Gains h mark s u names most
-gains_more h mark s t u names more most a b = record {
-  kept = λ n m e. b.kept n m (a.kept n m e);
-  gained = λ n m e. elim (b.gained n m e) [
-    | inl old ↦ elim (a.gained n m old) [ inl older ↦ inl older | inr new ↦ inr (new.0, new.1, new.2, b.stays n new.3) ]
-    | inr new ↦ inr (still_none h mark s t names more n a new.0, new.1, new.2, new.3)
-  ];
-  listed = λ n c. elim (b.listed n c) [
-    | inl old ↦ elim (a.listed n old) [ inl older ↦ inl older | inr new ↦ inr (new.0, b.kept n mark new.1) ]
-    | inr new ↦ inr (still_none h mark s t names more n a new.0, new.1)
-  ];
-  stays = λ n c. b.stays n (a.stays n c);
-  count = omega (arith, a.count, b.count);
-  places = λ n. (λ p. (a.places n).0 ((b.places n).0 p), λ p. (b.places n).1 ((a.places n).1 p));
-}
+gains_more h mark s t u names more most a b = search rules
 
 pub gains_one : (h : Sessions) (mark : Mark) (t : Table) (names : List OpName) (n : OpName) → HasPlace t n → mark_at t n ≡ None → Step h n mark.next
     → Gains h mark t (with_mark t n mark) names (names ++ n ∷ [])

@@ -1,5 +1,5 @@
 -- From one level of a search to the next.
-use Rattle.std.proofs.Common.{◌≡◌, ◌≢◌, ◌∙◌, ◌+◌, ◌<◌, ◌⊎◌, ℕ, List, [], ◌∷◌, length, take, get_or, Some, None, refl, sym, ap, subst, arith, inl, inr, ⊎_elim}
+use Rattle.std.proofs.Common.{rules, ◌≡◌, ◌≢◌, ◌∙◌, ◌+◌, ◌<◌, ◌⊎◌, ℕ, List, [], ◌∷◌, length, take, get_or, Some, None, refl, sym, ap, subst, arith, inl, inr, ⊎_elim}
 use Rattle.std.specs.Prelude.{Contains, zero, suc}
 use Rattle.std.specs.List.Sorted.{IsPermutation}
 use Rattle.std.proofs.lemmas.List.{get_or_default, get_or-take, length-take}
@@ -161,5 +161,4 @@ module _ (h : Sessions) (to : OpName) (m0 : Mark) (is0 : m0.steps ≡ 0) (named 
   fresh_start n = (λ c. absurd (none_contained n c), λ a. absurd (omega (arith, only_steps n (0 + 1) a)))
 
 pub rising_one : (names : List OpName) (to : OpName) → names ≡ to ∷ [] → IsRising names
-rising_one names to is j k d le lt =
-    inr (ap (λ (x : ℕ). get_or names x d) (omega (arith, ap length is)))
+rising_one names to is j k d le lt = search rules

@@ -1,21 +1,12 @@
 -- Sorted names are in their order.
-use Rattle.std.proofs.Common.{◌≡◌, ◌+◌, ◌-◌, ◌<◌, ◌≤◌, ℕ, zero, suc, Bool, false, List, length, get_or, refl, sym, ap, subst, arith, inl, inr, is_lt}
+use Rattle.std.proofs.Common.{rules, ◌≡◌, ◌+◌, ◌-◌, ◌<◌, ◌≤◌, ℕ, zero, suc, Bool, false, List, length, get_or, refl, sym, ap, subst, arith, inl, inr, is_lt}
 use Rattle.std.specs.Ordering.{ordering_then, nat_cmp}
-use Rattle.std.proofs.lemmas.Bool.{cases_eq, cases_lt}
-use Rattle.std.proofs.lemmas.Bool.Decides.{nat_tests}
 use Rattle.cops_types.specs.declared.op.OpName.{OpName}
 use Rattle.cops_types.specs.Faults.{IsBefore}
 use Rattle.cops_report.specs.Searches.{IsAtOrBefore, IsRising}
-use Rattle.cops_audit.proofs.Acyclic.{same_name}
 
 not_below : (a b : OpName) → is_lt (ordering_then (nat_cmp b.client a.client) (nat_cmp b.index a.index)) ≡ false → IsAtOrBefore a b
-not_below a b h = elim (cases_lt a.client b.client) [
-  | inl less ↦ inl (inl less)
-  | inr more ↦
-      let client : a.client ≡ b.client = grind (arith, nat_tests) in
-      let index : a.index ≤ b.index = grind (arith, nat_tests) in
-      elim (cases_eq a.index b.index) [ inl same ↦ inr (same_name a b client same) | inr other ↦ inl (inr (client, omega arith)) ]
-]
+not_below a b h = search rules
 
 at_or_before_joined : (a b c : OpName) → IsAtOrBefore a b → IsAtOrBefore b c → IsAtOrBefore a c
 at_or_before_joined a b c (inr e) second = subst (λ (x : OpName). IsAtOrBefore x c) (sym e) second

@@ -1,5 +1,5 @@
 -- A search continues, name by name.
-use Rattle.std.proofs.Common.{◌≡◌, ◌≢◌, ◌∙◌, ◌+◌, ◌<◌, ◌≤◌, ◌⊎◌, ℕ, List, [], ◌∷◌, ◌++◌, Some, None, sym, ap, subst, arith, inl, inr}
+use Rattle.std.proofs.Common.{rules, ◌≡◌, ◌≢◌, ◌∙◌, ◌+◌, ◌<◌, ◌≤◌, ◌⊎◌, ℕ, List, [], ◌∷◌, ◌++◌, Some, None, sym, ap, subst, arith, inl, inr}
 use Rattle.std.specs.Prelude.{Contains}
 use Rattle.std.proofs.lemmas.List.Elements.{Contains-push_cases}
 use Rattle.cops_types.specs.declared.op.OpName.{OpName}
@@ -17,10 +17,7 @@ steps_kept h mark s t names more n k g a = (a.0, g.kept n a.0 a.1, a.2)
 
 -- a name that has k steps, which are not the mark's, had them before
 pub steps_before : (h : Sessions) (mark : Mark) (s t : Table) (names more : List OpName) (n : OpName) (k : ℕ) → Gains h mark s t names more → k ≢ mark.steps → HasSteps t n k → HasSteps s n k
-steps_before h mark s t names more n k g other a = elim (g.gained n a.0 a.1) [
-  | inl old ↦ (a.0, old, a.2)
-  | inr new ↦ absurd (other (sym a.2 ∙ ap (λ (m : Mark). m.steps) new.1))
-]
+steps_before h mark s t names more n k g other a = search rules
 
 module _ (h : Sessions) (to b0 : OpName) (mark : Mark) (s t : Table) (d : ℕ) (done names more : List OpName)
     (i : IsSearch h to s d done) (g : Gains h mark s t names more) (steps : mark.steps ≡ d + 1) (next : mark.next ≡ b0) (here : HasSteps s b0 d)
