@@ -50,6 +50,11 @@ impl<'a> Names<'a> {
         Names::range(history, 0, history.len())
     }
 
+    /// No fewer than the names that are left.
+    pub fn most(&self) -> usize {
+        self.left
+    }
+
     /// Goes on to the next operation, where a session is at its end. Returns whether there is one.
     #[inline(always)]
     fn go_on(&mut self) -> bool

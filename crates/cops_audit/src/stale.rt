@@ -78,7 +78,8 @@ pub fn stale_among(
     requires in_order { AllPairs IsBefore (names_left names) }
     ensures { IfOk result (λ v. ListsStale analysis.now.history.now.sessions (names_left names.entry) v.items) }
 {
-    let mut found = Vec::new(alloc);
+    // Memory that no suspect needs is not touched, and the vector is not copied as it grows.
+    let mut found = Vec::with_capacity(alloc, names.most())?;
     set_suspects(&mut found, analysis, names)?;
     if found.as_slice().is_empty() {
         return Ok(Vec::new(alloc));
