@@ -158,6 +158,8 @@ def wrong_lines():
 
 def growing_files():
     """A plain file is followed past its end until the program is interrupted; a pipe with a name ends."""
+    # A shell has what it starts in the background ignore interrupts, and a program inherits that. A handler is not inherited.
+    signal.signal(signal.SIGINT, signal.default_int_handler)
     with tempfile.TemporaryDirectory() as folder:
         path = os.path.join(folder, "lines.jsonl")
         with open(path, "wb") as file:
