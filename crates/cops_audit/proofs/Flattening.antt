@@ -43,20 +43,10 @@ module _ (summaries session : List Summary) where
         (λ k d inside. let w = within k d inside in (w.0, omega (arith, w.1, length-append summaries session)))
         (omega (arith, starts, ends, length-append summaries session), omega (arith, ends))
 
--- the summaries of one more session
-pub summarized_more : (h : Sessions) (table : List VersionedPut) (lists : List (List Summary)) (session : List Summary) (client : ℕ) → length lists ≡ client → IsSessionSummarized h table client session
-    → ((c : ℕ) → c < client → IsSessionSummarized h table c (slice_index_or lists c []))
-    → (c : ℕ) → c < client + 1 → IsSessionSummarized h table c (slice_index_or (lists ++ session ∷ []) c [])
-summarized_more h table lists session client len summarized before c less = elim (eq-or-lt_of_le (let l : c ≤ client = omega (arith, less) in l)) [
-  | inl same ↦ subst (λ (n : ℕ). IsSessionSummarized h table n (get_or (lists ++ session ∷ []) n [])) (sym same)
-      (subst (IsSessionSummarized h table client) (sym (get_or_push lists session [] client len)) summarized)
-  | inr lower ↦ subst (IsSessionSummarized h table c) (sym (get_low lists (session ∷ []) c [] (omega (arith, lower, len)))) (before c lower)
-]
+-- the sessions of some clients, and those of the others after them
+module _ (summaries : List Summary) (spans : List Span) (high : List (List Summary)) where
+  pub low_session : (client : ℕ) → client < length spans → slice_index_or (map (span_of summaries) spans ++ high) client [] ≡ slice_index_or (map (span_of summaries) spans) client []
+  low_session client inside = get_low (map (span_of summaries) spans) high client [] (omega (arith, inside, length-map spans (span_of summaries)))
 
--- the summaries of a session, where those of some sessions are in lists of their own and those of the others in one list
-module _ {A : Type 0} (f : A → List Summary) (sessions : List A) (summaries : List Summary) (spans : List Span) where
-  pub own_session : (client : ℕ) (d : A) → client < length sessions → get_or (map f sessions ++ map (span_of summaries) spans) client [] ≡ f (get_or sessions client d)
-  own_session client d inside = get_low (map f sessions) (map (span_of summaries) spans) client [] (omega (arith, inside, length-map sessions f)) ∙ get_or-map f sessions client d [] inside
-
-  pub later_session : (client k : ℕ) → client ≡ length sessions + k → get_or (map f sessions ++ map (span_of summaries) spans) client [] ≡ get_or (map (span_of summaries) spans) k []
-  later_session client k e = get_high (map f sessions) (map (span_of summaries) spans) k client [] (omega (arith, e, length-map sessions f))
+  pub high_session : (client k : ℕ) → client ≡ length spans + k → slice_index_or (map (span_of summaries) spans ++ high) client [] ≡ slice_index_or high k []
+  high_session client k e = get_high (map (span_of summaries) spans) high k client [] (omega (arith, e, length-map spans (span_of summaries)))

@@ -11,7 +11,7 @@ use Rattle.cops_audit.specs.declared.summaries.Summary.{Summary}
 use Rattle.cops_audit.specs.declared.summaries.OpPlace.{OpPlace}
 use Rattle.cops_audit.specs.declared.summaries.OpPlace.TheVariants.{Put, Got, Missed, Sourceless}
 use Rattle.cops_audit.specs.Tables.{IsVersionTable}
-use Rattle.cops_audit.specs.Summaries.{above, ArePrefixesSummarized, AreLongEnough, AreMarks, AreSummarized, IsPrefixSummarized, IsMark, IsSummarized, IsSeen, IsSessionSummarized, summary_at}
+use Rattle.cops_audit.specs.Summaries.{above, AreSummarized, IsMark, IsSummarized, IsSeen, IsSessionSummarized, summary_at}
 use Rattle.cops_audit.proofs.Listing.{named_client, named_index, slice_get_there}
 use Rattle.cops_audit.proofs.Places.{inside_table}
 use Rattle.cops_audit.proofs.Unique.{stands}
@@ -61,25 +61,6 @@ module _ (h : Sessions) (table : List VersionedPut) (client : ℕ) (session : Li
         | inr low ↦ subst (λ (k : ℕ). IsMark (session ++ record { seen = seen; mark = m } ∷ []) (count + 1) k) (omega (arith, is_max, low)) (mark_stays session (record { seen = seen; mark = m }) count mark n.whole n.up_to (omega (arith, low)))
       ])
 
--- the mark of the last summary
-pub mark_of_last : (session : List Summary) (d : Summary) → AreMarks session → 0 < length session → IsMark session (length session) (get_or session (length session - 1) d).mark
-mark_of_last session d marks some =
-    let e : length session - 1 + 1 ≡ length session = omega arith in
-    subst (λ (k : ℕ). IsMark session k (get_or session (length session - 1) d).mark) e (marks (length session - 1) (get_or session (length session - 1) d) (stands session (length session - 1) d (omega (arith, some))))
-
-pub mark_of_none : (session : List Summary) → length session ≡ 0 → IsMark session (length session) 0
-mark_of_none [] e = mark_none
-mark_of_none (x ∷ xs) e = absurd (omega (arith, e))
-
--- the summaries of a prefix of a session, with their mark
-pub prefix_summarized : (h : Sessions) (table : List VersionedPut) (client : ℕ) (session : List Summary) (count mark : ℕ) → IsPrefixSummarized h table client session → length session ≡ count → IsMark session (length session) mark
-    → Summarized h table client session count mark
-prefix_summarized h table client session count mark prefix len up_to = record { whole = len; up_to = subst (λ (k : ℕ). IsMark session k mark) len up_to; seen = prefix.seen; marks = prefix.marks }
-
--- no summaries are those of an empty prefix
-pub prefix_of_none : (h : Sessions) (table : List VersionedPut) (client : ℕ) (session : List Summary) → session ≡ [] → IsPrefixSummarized h table client session
-prefix_of_none h table client session e = subst (IsPrefixSummarized h table client) (sym e) (record { within = omega arith; seen = λ i x at. absurd cc; marks = λ i x at. absurd cc })
-
 -- the summary of an operation, and the session that it is in
 pub session_of : (h : Sessions) (table : List VersionedPut) (summaries : List (List Summary)) → IsSummarized h table summaries → (name : OpName) (summary : Summary) → summary_at summaries name ≡ Some summary
     → IsSessionSummarized h table name.client (slice_index_or summaries name.client [])
@@ -108,52 +89,6 @@ set_other f d (y ∷ ys) zero zero x differs = absurd (differs refl)
 set_other f d (y ∷ ys) zero (suc c) x differs = refl
 set_other f d (y ∷ ys) (suc k) zero x differs = refl
 set_other f d (y ∷ ys) (suc k) (suc c) x differs = set_other f d ys k c x (λ e. differs (ap suc e))
-
-module _ {A : Type 0} (f : A → List Summary) (h : Sessions) (table : List VersionedPut) (xs : List A) (k : ℕ) (x : A) (inside : k < length xs) where
-  pub prefixes_set : (first : ℕ) → ArePrefixesSummarized h table first (map f xs) → IsPrefixSummarized h table (first + k) (f x) → ArePrefixesSummarized h table first (map f (slice_set xs k x))
-  prefixes_set first prefixes prefix = record {
-    clients = omega (arith, length-map (slice_set xs k x) f, length-set xs k x, length-map xs f, prefixes.clients);
-    sessions = λ c less. elim (cases_order c k) [
-      | inl same ↦ subst (λ (n : ℕ). IsPrefixSummarized h table (first + n) (get_or (map f (slice_set xs k x)) n [])) (sym same) (subst (IsPrefixSummarized h table (first + k)) (sym (set_here f [] xs k x inside)) prefix)
-      | inr other ↦
-          let differs : c ≢ k = λ e. elim other [ inl l ↦ omega (arith, l, e) | inr m ↦ omega (arith, m, e) ] in
-          subst (IsPrefixSummarized h table (first + c)) (sym (set_other f [] xs k c x differs))
-          (prefixes.sessions c (omega (arith, less, length-map (slice_set xs k x) f, length-set xs k x, length-map xs f)))
-    ];
-  }
-
-  pub whole_set : (first : ℕ) → AreLongEnough h first k (map f xs) → length (slice_index_or h (first + k) []) ≤ length (f x) → AreLongEnough h first (k + 1) (map f (slice_set xs k x))
-  whole_set first whole here = λ c less. elim (eq-or-lt_of_le (let l : c ≤ k = omega (arith, less) in l)) [
-    | inl same ↦ subst (λ (n : ℕ). length (slice_index_or h (first + n) []) ≤ length (get_or (map f (slice_set xs k x)) n [])) (sym same)
-        (subst (λ (s : List Summary). length (slice_index_or h (first + k) []) ≤ length s) (sym (set_here f [] xs k x inside)) here)
-    | inr before ↦ subst (λ (s : List Summary). length (slice_index_or h (first + c) []) ≤ length s) (sym (set_other f [] xs k c x (λ e. omega (arith, before, e)))) (whole c before)
-  ]
-
--- where there are no summaries, the prefixes are empty
-pub prefixes_of_none : {A : Type 0} (f : A → List Summary) (h : Sessions) (table : List VersionedPut) (first : ℕ) (xs : List A) → first + length xs ≤ length h → ((k : ℕ) (d : A) → k < length xs → f (get_or xs k d) ≡ [])
-    → ArePrefixesSummarized h table first (map f xs)
-prefixes_of_none {A = A} f h table first xs len none = record {
-  clients = omega (arith, length-map xs f, len);
-  sessions = λ k less. prefix_of_none h table (first + k) (get_or (map f xs) k []) (each k (omega (arith, less, length-map xs f)));
-}
-  where
-    each : (c : ℕ) → c < length xs → get_or (map f xs) c [] ≡ []
-    each c inside = at xs c inside (λ d. none c d inside)
-      where
-        at : (ys : List A) (k : ℕ) → k < length ys → ((d : A) → f (get_or ys k d) ≡ []) → get_or (map f ys) k [] ≡ []
-        at [] k l e = refl
-        at (y ∷ ys) zero l e = e y
-        at (y ∷ ys) (suc k) l e = at ys k (omega (arith, l)) e
-
--- prefixes that are long enough are the whole sessions
-pub summarized_whole : {A : Type 0} (h : Sessions) (table : List VersionedPut) (first end : ℕ) (f : A → List Summary) (xs : List A) → first + length xs ≡ end → ArePrefixesSummarized h table first (map f xs) → AreLongEnough h first (length xs) (map f xs)
-    → AreSummarized h table first end (map f xs)
-summarized_whole h table first end f xs count prefixes whole = record {
-  clients = omega (arith, count, length-map xs f);
-  sessions = λ k less.
-      let prefix = prefixes.sessions k less in
-      record { whole = omega (arith, prefix.within, whole k (omega (arith, less, length-map xs f))); seen = prefix.seen; marks = prefix.marks };
-}
 
 -- the summaries of the sessions of all clients
 pub summarized_all : (h : Sessions) (table : List VersionedPut) (first end : ℕ) (summaries : List (List Summary)) → first ≡ 0 → end ≡ length h → AreSummarized h table first end summaries → IsSummarized h table summaries
@@ -186,3 +121,14 @@ summarized_joined h table first mid end low high a b = record {
         let client : mid + j ≡ first + k = omega (arith, le, a.clients) in
         subst (IsSessionSummarized h table (first + k)) (sym (get_high low high j k [] (omega (arith, le))))
         (subst (λ (n : ℕ). IsSessionSummarized h table n (get_or high j [])) client (b.sessions j (omega (arith, less, le, length-append low high))))
+
+-- the summaries of no client, and of one
+pub summarized_none : (h : Sessions) (table : List VersionedPut) (first : ℕ) → AreSummarized h table first first []
+summarized_none h table first = record { clients = omega arith; sessions = λ k less. absurd (omega (arith, less)) }
+
+pub summarized_one : (h : Sessions) (table : List VersionedPut) (client : ℕ) (session : List Summary) → IsSessionSummarized h table client session → AreSummarized h table client (client + 1) (session ∷ [])
+summarized_one h table client session summarized = record { clients = omega arith; sessions = at }
+  where
+    at : (k : ℕ) → k < length (session ∷ []) → IsSessionSummarized h table (client + k) (get_or (session ∷ []) k [])
+    at zero less = subst (λ (n : ℕ). IsSessionSummarized h table n session) (let e : client ≡ client + 0 = omega arith in e) summarized
+    at (suc k) less = absurd (omega (arith, less))

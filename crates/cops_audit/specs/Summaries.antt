@@ -53,33 +53,10 @@ pub record IsSessionSummarized (h : Sessions) (table : List VersionedPut) (clien
   pub seen : (i : ℕ) (summary : Summary) → slice_get session i ≡ Some summary → IsSeen h table (record { client = client; index = i }) summary.seen
   pub marks : (i : ℕ) (summary : Summary) → slice_get session i ≡ Some summary → IsMark session (i + 1) summary.mark
 
--- the summaries of the operations of a prefix of a session, each with its mark
-pub record IsPrefixSummarized (h : Sessions) (table : List VersionedPut) (client : ℕ) (session : List Summary) : Type 0 where
-  pub within : length session ≤ length (slice_index_or h client [])
-  pub seen : (i : ℕ) (summary : Summary) → slice_get session i ≡ Some summary → IsSeen h table (record { client = client; index = i }) summary.seen
-  pub marks : (i : ℕ) (summary : Summary) → slice_get session i ≡ Some summary → IsMark session (i + 1) summary.mark
-
--- the summaries of a prefix of each session of some clients, from one on
-pub record ArePrefixesSummarized (h : Sessions) (table : List VersionedPut) (first : ℕ) (summaries : List (List Summary)) : Type 0 where
-  pub clients : first + length summaries ≤ length h
-  pub sessions : (k : ℕ) → k < length summaries → IsPrefixSummarized h table (first + k) (slice_index_or summaries k [])
-
--- the first `count` of some lists of summaries, of the clients from one on, cover their whole sessions
-abbrev pub AreLongEnough : Sessions → ℕ → ℕ → List (List Summary) → Type 0
-AreLongEnough h first count summaries = (k : ℕ) → k < count → length (slice_index_or h (first + k) []) ≤ length (slice_index_or summaries k [])
-
--- where no put is at a place or later, lists of summaries of the clients from one on cover their whole sessions
-abbrev pub AreWholeFrom : Sessions → List VersionedPut → ℕ → ℕ → List (List Summary) → Type 0
-AreWholeFrom h table place first summaries = length table ≤ place → AreLongEnough h first (length summaries) summaries
-
 -- the summaries of the sessions of the clients from one up to another
 pub record AreSummarized (h : Sessions) (table : List VersionedPut) (first end : ℕ) (summaries : List (List Summary)) : Type 0 where
   pub clients : first + length summaries ≡ end
   pub sessions : (k : ℕ) → k < length summaries → IsSessionSummarized h table (first + k) (slice_index_or summaries k [])
-
--- the summaries of some clients' sessions and of those of the clients after them, in one list
-abbrev pub AreJoined : List (List Summary) → List (List Summary) → List (List Summary) → Type 0
-AreJoined low high joined = (h : Sessions) (table : List VersionedPut) (first mid end : ℕ) → AreSummarized h table first mid low → AreSummarized h table mid end high → AreSummarized h table first end joined
 
 -- the summary of an operation
 abbrev pub summary_at : List (List Summary) → OpName → Option Summary

@@ -11,14 +11,14 @@ ghost use Rattle.cops_audit.specs.Rooms.{Fits, IsSummarizedIn, IsReady};
 ghost use Rattle.cops_audit.specs.SoFar.{HaveSourcesOrWait, IsMismatched, IsSoFar, IsWaiting};
 ghost use Rattle.cops_audit.specs.Tables.{IsVersionTable};
 
-use crate::analysis::Analysis;
+use crate::analysis::{Analysis, PutIndex};
 use crate::flat::FlatSummaries;
 use crate::floors::set_floors;
 use crate::names::Names;
 use crate::put_places::set_places;
 use crate::room::Scratch;
 use crate::stale::has_stale;
-use crate::summaries::{Summaries, count_sourceless, is_sourceless};
+use crate::summaries::{Summaries, SummaryPart, count_sourceless, is_sourceless};
 use crate::table::{is_rising, place_of, set_puts};
 use crate::verdict::SoFar;
 use crate::window::set_suspects;
@@ -144,8 +144,17 @@ impl Scratch {
     {
         let table = self.table.as_slice();
         set_places(&mut self.places, history, table)?;
-        flat.rebuild(history, table);
-        let summaries = flat.look();
+        let index = PutIndex {
+            history,
+            table,
+            places: self.places.as_slice(),
+            sources: &[],
+        };
+        flat.fill(&index, 0, history.clients());
+        let summaries = Summaries {
+            low: flat.look(),
+            high: SummaryPart::none(),
+        };
         let so_far = self.assess_summaries(history, &summaries)?;
         Ok(so_far)
     }

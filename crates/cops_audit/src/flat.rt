@@ -1,11 +1,11 @@
 ghost use Rattle.std.specs.Prelude.{◌≡◌, ◌≤◌, ◌+◌, ◌++◌, List, length, slice_index_or, [], vec_len, vec_capacity};
+ghost use Rattle.cops_audit.specs.Analyses.{IsPutIndex};
 ghost use Rattle.cops_audit.specs.Summaries.{IsSessionSummarized};
-ghost use Rattle.cops_audit.specs.Tables.{IsVersionTable};
 ghost use Rattle.cops_audit.specs.declared.summaries.Summary.{Summary};
 
-use crate::op_version::OpVersion;
-use crate::summaries::{Summaries, Summary, see};
-use cops_types::{History, OpName, VersionedPut};
+use crate::analysis::PutIndex;
+use crate::summaries::{Summaries, Summary, SummaryPart, see_op};
+use cops_types::OpName;
 use std::alloc::{AllocError, Global};
 use std::marker::Model;
 
@@ -16,8 +16,8 @@ pub struct Span {
     pub to: usize,
 }
 
-/// The causal summaries of the operations of a history, session by session in one vector. Its capacity is reserved in
-/// advance and not touched until the summaries are built.
+/// The causal summaries of the operations of clients that follow one another, session by session in one vector. Its
+/// capacity is reserved in advance and not touched until the summaries are built.
 #[derive(Drop)]
 pub struct FlatSummaries {
     summaries: Vec<Summary>,
@@ -36,25 +36,20 @@ impl Model for FlatSummaries {
 }
 
 /// Adds the causal summaries of the operations of a session. The vector must have the capacity for them.
-fn push_session(
-    summaries: &mut Vec<Summary>,
-    history: &History,
-    table: &[VersionedPut],
-    client: u16,
-)
-    requires table { IsVersionTable history.now.sessions table.now }
-    requires room { vec_len summaries.old + length (slice_index_or history.now.sessions client []) ≤ vec_capacity summaries.old }
-    ensures summaries { (session : List Summary) × IsSessionSummarized history.now.sessions table.now client session × (summaries.new.items ≡ summaries.old.items ++ session) }
+fn push_session(summaries: &mut Vec<Summary>, index: &PutIndex, client: u16)
+    requires index { IsPutIndex index.now }
+    requires room { vec_len summaries.old + length (slice_index_or index.now.history.now.sessions client []) ≤ vec_capacity summaries.old }
+    ensures summaries { (session : List Summary) × IsSessionSummarized index.now.history.now.sessions index.now.table.now client session
+        × (summaries.new.items ≡ summaries.old.items ++ session) }
     ensures capacity { vec_capacity summaries.new ≡ vec_capacity summaries.old }
 {
     let mut mark = 0;
-    for index in 0..history.session_len(client) {
+    for number in 0..index.history.session_len(client) {
         let name = OpName {
             client,
-            index: index as u32,
+            index: number as u32,
         };
-        let op_version = OpVersion::of(history, name);
-        let seen = see(history, table, mark, name, &op_version);
+        let seen = see_op(index, name, mark);
         mark = mark.max(seen.above());
         summaries.push_reserved(Summary { seen, mark });
     }
@@ -63,17 +58,36 @@ fn push_session(
 impl FlatSummaries {
     ghost use Rattle.std.specs.Prelude.{◌≡◌, ◌≤◌, IfOk, OnOk, length};
     ghost use Rattle.cops_types.specs.Counts.{count_of};
-    ghost use Rattle.cops_audit.specs.Summaries.{IsSummarized};
+    ghost use Rattle.cops_audit.specs.Analyses.{IsPutIndex};
+    ghost use Rattle.cops_audit.specs.Summaries.{AreSummarized};
 
     /// No summaries, with capacity for the spans of `clients` clients.
-    pub fn new(alloc: Global, clients: u16) -> Result<Self, AllocError>
+    pub fn new(alloc: Global, clients: usize) -> Result<Self, AllocError>
         ensures { IfOk result (λ flat. clients ≤ flat.session_room) }
     {
-        let spans = Vec::with_capacity(alloc, clients as usize)?;
+        let spans = Vec::with_capacity(alloc, clients)?;
         Ok(FlatSummaries {
             summaries: Vec::new(alloc),
             spans,
         })
+    }
+
+    /// The summaries of the operations of the clients from `first` up to `end`.
+    pub fn on_clients(
+        alloc: Global,
+        index: &PutIndex,
+        first: usize,
+        end: usize,
+    ) -> Result<Self, AllocError>
+        requires index { IsPutIndex index.now }
+        requires first { first ≤ end }
+        requires end { end ≤ length index.now.history.now.sessions }
+        ensures { IfOk result (λ flat. AreSummarized index.now.history.now.sessions index.now.table.now first end flat.sessions) }
+    {
+        let mut flat = FlatSummaries::new(alloc, index.history.clients())?;
+        flat.reserve(index.history.len())?;
+        flat.fill(index, first, end);
+        Ok(flat)
     }
 
     /// Reserves capacity for `count` summaries. Those that are there are dropped.
@@ -87,33 +101,86 @@ impl FlatSummaries {
         self.summaries.reserve(count)
     }
 
-    /// Rebuilds the summaries of all operations. The capacity for them must be reserved, and it allocates nothing.
-    pub fn rebuild(&mut self, history: &History, table: &[VersionedPut])
-        requires table { IsVersionTable history.now.sessions table.now }
-        requires sessions { length history.now.sessions ≤ self.old.session_room }
-        requires summaries { count_of history.now.sessions ≤ self.old.summary_room }
-        ensures summarized { IsSummarized history.now.sessions table.now self.new.sessions }
+    /// Builds the summaries of the operations of the clients from `first` up to `end`, in place of those that are
+    /// there. The capacity for all operations must be reserved, and it allocates nothing.
+    pub fn fill(&mut self, index: &PutIndex, first: usize, end: usize)
+        requires index { IsPutIndex index.now }
+        requires first { first ≤ end }
+        requires end { end ≤ length index.now.history.now.sessions }
+        requires sessions { length index.now.history.now.sessions ≤ self.old.session_room }
+        requires summaries { count_of index.now.history.now.sessions ≤ self.old.summary_room }
+        ensures summarized { AreSummarized index.now.history.now.sessions index.now.table.now first end self.new.sessions }
         ensures summary_room { self.new.summary_room ≡ self.old.summary_room }
         ensures session_room { self.new.session_room ≡ self.old.session_room }
     {
         self.spans.clear();
         self.summaries.clear();
-        for client in 0..history.clients() {
+        let end = end.min(index.history.clients());
+        for client in first..end {
             let from = self.summaries.len();
-            push_session(&mut self.summaries, history, table, client as u16);
+            push_session(&mut self.summaries, index, client as u16);
             let to = self.summaries.len();
             self.spans.push_reserved(Span { from, to });
         }
     }
 
     /// A view of the summaries for reading.
-    pub fn look(&self) -> Summaries<'_>
+    pub fn look(&self) -> SummaryPart<'_>
         ensures { result ≡ self.now.sessions }
     {
-        Summaries {
-            sessions: &[],
-            flat: self.summaries.as_slice(),
+        SummaryPart {
+            summaries: self.summaries.as_slice(),
             spans: self.spans.as_slice(),
+        }
+    }
+}
+
+/// The causal summaries of the operations of a history: those of the first clients, and those of the others.
+#[derive(Drop)]
+pub struct Halves {
+    low: FlatSummaries,
+    high: FlatSummaries,
+}
+
+impl Model for Halves {
+    ghost use Rattle.std.specs.Prelude.{List, ◌++◌};
+    ghost use Rattle.cops_audit.specs.declared.summaries.Summary.{Summary};
+
+    ghost Value = { List (List Summary) };
+
+    ghost view = { λ a. a.low.sessions ++ a.high.sessions };
+}
+
+impl Halves {
+    ghost use Rattle.std.specs.Prelude.{◌≡◌, ◌++◌, IfOk};
+    ghost use Rattle.cops_audit.specs.Analyses.{IsPutIndex};
+    ghost use Rattle.cops_audit.specs.Summaries.{IsSummarized};
+
+    /// The summaries of the first clients and of the others.
+    pub fn of(low: FlatSummaries, high: FlatSummaries) -> Self
+        ensures { result ≡ low.sessions ++ high.sessions }
+    {
+        Halves { low, high }
+    }
+
+    /// The summaries of all operations, built by one thread.
+    pub fn by_one(alloc: Global, index: &PutIndex) -> Result<Self, AllocError>
+        requires { IsPutIndex index.now }
+        ensures { IfOk result (IsSummarized index.now.history.now.sessions index.now.table.now) }
+    {
+        let clients = index.history.clients();
+        let low = FlatSummaries::on_clients(alloc, index, 0, clients)?;
+        let high = FlatSummaries::on_clients(alloc, index, clients, clients)?;
+        Ok(Halves::of(low, high))
+    }
+
+    /// A view of the summaries for reading.
+    pub fn look(&self) -> Summaries<'_>
+        ensures { result ≡ self.now }
+    {
+        Summaries {
+            low: self.low.look(),
+            high: self.high.look(),
         }
     }
 }

@@ -46,7 +46,7 @@ impl Online {
     {
         let history = History::new(alloc, clients)?;
         let room = Scratch::new(alloc, clients)?;
-        let summaries = FlatSummaries::new(alloc, clients)?;
+        let summaries = FlatSummaries::new(alloc, clients as usize)?;
         Ok(Online {
             alloc,
             history,
@@ -141,13 +141,20 @@ impl Online {
         Ok(judged.into_verdict())
     }
 
-    /// The verdict on what was fed, with the history. The memory that is reserved for answers is freed before; `judge`
-    /// allocates what it needs. The only error is `Memory`, where memory runs out.
+    /// The verdict on what was fed, with the history. The only error is `Memory`, where memory runs out.
     pub fn close(self) -> Result<Judged, Memory>
         ensures { IfOk result (IsJudged self) }
     {
-        let alloc = self.alloc;
-        let history = self.into_history();
+        // The reserved memory is freed only after the judgement: an allocator that gets large blocks back may keep the
+        // next ones for reuse, and then more memory is in use. What is reserved was not touched, unless `so_far` was
+        // asked.
+        let Online {
+            alloc,
+            mut history,
+            room: _room,
+            summaries: _summaries,
+        } = self;
+        history.forget_candidates();
         let verdict = judge(alloc, &history)?;
         Ok(Judged::new(history, verdict))
     }

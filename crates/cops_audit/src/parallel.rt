@@ -6,8 +6,8 @@ ghost use Rattle.cops_audit.specs.Summaries.{AreSummarized, IsSummarized};
 ghost use Rattle.cops_audit.specs.Tables.{IsVersionTable};
 
 use crate::analysis::PutIndex;
+use crate::flat::{FlatSummaries, Halves};
 use crate::key_index::KeyIndex;
-use crate::summaries::SessionSummaries;
 use std::alloc::{AllocError, Global};
 use std::thread;
 use std::thread::Threads;
@@ -15,15 +15,15 @@ use std::thread::Threads;
 /// The least number of threads with which the puts are listed by their keys in parallel with the causal summaries.
 const THREADS_FOR_KEYS: u8 = 3;
 
-/// The causal summaries of all operations: those of the first half of the clients are built in parallel with those of
-/// the rest.
+/// The causal summaries of all operations: those of the first half of the clients, built in parallel with those of the
+/// others.
 fn summaries_in_halves<R: Threads + Sync>(
     rt: &R,
     alloc: Global,
     index: &PutIndex,
-) -> Result<SessionSummaries, AllocError>
+) -> Result<Halves, AllocError>
     requires { IsPutIndex index.now }
-    ensures { IfOk result (λ summaries. IsSummarized index.now.history.now.sessions index.now.table.now summaries) }
+    ensures { IfOk result (IsSummarized index.now.history.now.sessions index.now.table.now) }
 {
     let clients = index.history.clients();
     let mid = clients / 2;
@@ -31,14 +31,14 @@ fn summaries_in_halves<R: Threads + Sync>(
     let (places, sources) = (index.places, index.sources);
     let (low, high) = thread::join(
         rt,
-        || -> Result<SessionSummaries, AllocError>
+        || -> Result<FlatSummaries, AllocError>
             requires table { IsVersionTable history.now.sessions table.now }
             requires places { ArePutPlaces history.now.puts table.now places.now }
             requires sources { AreSourcePlaces history.now table.now sources.now }
             requires inside { mid ≤ length history.now.sessions }
-            ensures { IfOk result (AreSummarized history.entry.now.sessions table.entry.now 0 mid) }
+            ensures { IfOk result (λ low. AreSummarized history.entry.now.sessions table.entry.now 0 mid low.sessions) }
         {
-            SessionSummaries::on_clients(
+            FlatSummaries::on_clients(
                 alloc,
                 &PutIndex {
                     history,
@@ -50,14 +50,14 @@ fn summaries_in_halves<R: Threads + Sync>(
                 mid,
             )
         },
-        || -> Result<SessionSummaries, AllocError>
+        || -> Result<FlatSummaries, AllocError>
             requires table { IsVersionTable history.now.sessions table.now }
             requires places { ArePutPlaces history.now.puts table.now places.now }
             requires sources { AreSourcePlaces history.now table.now sources.now }
             requires inside { (mid ≤ clients) × (clients ≤ length history.now.sessions) }
-            ensures { IfOk result (AreSummarized history.entry.now.sessions table.entry.now mid clients) }
+            ensures { IfOk result (λ high. AreSummarized history.entry.now.sessions table.entry.now mid clients high.sessions) }
         {
-            SessionSummaries::on_clients(
+            FlatSummaries::on_clients(
                 alloc,
                 &PutIndex {
                     history,
@@ -70,8 +70,7 @@ fn summaries_in_halves<R: Threads + Sync>(
             )
         },
     );
-    let summaries = SessionSummaries::joined(low?, high?)?;
-    Ok(summaries)
+    Ok(Halves::of(low?, high?))
 }
 
 /// The causal summaries, in two halves, built in parallel with the list of the puts by their keys.
@@ -79,7 +78,7 @@ fn summaries_parallel_to_keys<R: Threads + Sync>(
     rt: &R,
     alloc: Global,
     index: &PutIndex,
-) -> Result<(SessionSummaries, KeyIndex), AllocError>
+) -> Result<(Halves, KeyIndex), AllocError>
     requires { IsPutIndex index.now }
     ensures summaries { IfOk result (λ r. IsSummarized index.now.history.now.sessions index.now.table.now r.0) }
     ensures keys { IfOk result (λ r. IsKeyIndex index.now.history.now index.now.table.now r.1) }
@@ -88,11 +87,11 @@ fn summaries_parallel_to_keys<R: Threads + Sync>(
     let (places, sources) = (index.places, index.sources);
     let (summaries, keys) = thread::join(
         rt,
-        || -> Result<SessionSummaries, AllocError>
+        || -> Result<Halves, AllocError>
             requires table { IsVersionTable history.now.sessions table.now }
             requires places { ArePutPlaces history.now.puts table.now places.now }
             requires sources { AreSourcePlaces history.now table.now sources.now }
-            ensures { IfOk result (λ summaries. IsSummarized history.entry.now.sessions table.entry.now summaries) }
+            ensures { IfOk result (IsSummarized history.entry.now.sessions table.entry.now) }
         {
             summaries_in_halves(
                 rt,
@@ -121,7 +120,7 @@ pub fn summaries_and_keys<R: Threads + Sync>(
     alloc: Global,
     index: &PutIndex,
     threads: u8,
-) -> Result<(SessionSummaries, KeyIndex), AllocError>
+) -> Result<(Halves, KeyIndex), AllocError>
     requires { IsPutIndex index.now }
     ensures summaries { IfOk result (λ r. IsSummarized index.now.history.now.sessions index.now.table.now r.0) }
     ensures keys { IfOk result (λ r. IsKeyIndex index.now.history.now index.now.table.now r.1) }
@@ -130,7 +129,7 @@ pub fn summaries_and_keys<R: Threads + Sync>(
         return summaries_parallel_to_keys(rt, alloc, index);
     }
     let summaries = if threads < 2 {
-        SessionSummaries::new(alloc, index)?
+        Halves::by_one(alloc, index)?
     } else {
         summaries_in_halves(rt, alloc, index)?
     };

@@ -1,11 +1,11 @@
 use crate::analysis::{Analysis, PutIndex};
+use crate::flat::Halves;
 use crate::key_index::KeyIndex;
 use crate::names::Names;
 use crate::parallel::summaries_and_keys;
 use crate::put_places::put_places;
 use crate::puts::Puts;
 use crate::stale::stale_among;
-use crate::summaries::SessionSummaries;
 use crate::table::put_names;
 use crate::verdict::{Faults, Stale, Verdict};
 use cops_types::{History, Memory, OpName, VersionedPut};
@@ -19,7 +19,7 @@ use std::thread::Threads;
 pub struct Tables<'a> {
     history: &'a History,
     table: Vec<VersionedPut>,
-    summaries: SessionSummaries,
+    summaries: Halves,
     keys: KeyIndex,
 }
 
@@ -57,7 +57,7 @@ impl<'a> Tables<'a> {
             places: places.as_slice(),
             sources: puts.sources.places.as_slice(),
         };
-        let summaries = SessionSummaries::new(alloc, &index)?;
+        let summaries = Halves::by_one(alloc, &index)?;
         let keys = KeyIndex::new(alloc, index.history, index.table, index.places)?;
         Ok(Tables {
             history: puts.history,

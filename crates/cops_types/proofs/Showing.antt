@@ -21,7 +21,7 @@ use Rattle.cops_types.specs.Lists.{item_at, number_at, with_item}
 use Rattle.cops_types.specs.Recorded.{AreNumbered}
 use Rattle.cops_types.specs.Slots.{AreKept, IsFrom, IsThere, get_number_in, get_numbers_in, put_shown, source_shown, got_shown, shown, shown_by, versioned, content_of}
 use Rattle.cops_types.specs.Blocks.{KeptBlocks}
-use Rattle.cops_types.proofs.Sessions.{at_or_other, more_items, none_of}
+use Rattle.cops_types.proofs.Sessions.{at_or_other, more_items}
 use Rattle.cops_types.proofs.Reporting.{item_came, item_stays, map-same}
 
 -- ---- lists

@@ -1,5 +1,6 @@
 -- Entries: operations as a history stores them, with numbers for their keys and, in some gets, the put in place of its value.
 use Rattle.std.specs.Prelude.{◌≡◌, ◌≢◌, ◌↔◌, ◌<◌, ◌≤◌, ◌+◌, ◌⊎◌, ◌++◌, ◌∷◌, ℕ, List, [], length, map, Option, Some, None, option_copied, slice_get, slice_index_or, Bool, true, false, Contains, AllPairs}
+use Rattle.cops_types.specs.declared.entry.Returned.{Returned}
 use Rattle.cops_types.specs.declared.entry.StoredOp.{StoredOp}
 use Rattle.cops_types.specs.declared.entry.StoredOp.TheVariants.{Put, Got, Sourced, Missed}
 use Rattle.cops_types.specs.declared.entry.StoredOpRef.{StoredOpRef}
@@ -47,6 +48,10 @@ reported keys all (Got key value version) = read (slice_index_or keys key []) va
 reported keys all (Sourced key put version) = read (slice_index_or keys key []) (value_put all put.name) version
 reported keys all (Missed key) = missed (slice_index_or keys key [])
 
+-- the operation of a get that returned this
+abbrev pub returned : List (List ℕ) → Returned → Operation
+returned keys got = read (slice_index_or keys got.key []) (option_copied got.value) got.version
+
 -- the history that the entries stand for
 abbrev pub reported_by : List (List ℕ) → EntryLists → Sessions
 reported_by keys all = map (map (reported keys all)) all
@@ -68,6 +73,29 @@ AreSound keys all = (name : OpName) (entry : StoredOp) → item_at all name ≡ 
 abbrev pub IsNumbered : List OpName → StoredOp → Type 0
 IsNumbered names (Sourced key put version) = slice_get names put.number ≡ Some put.name
 IsNumbered names _ = Unit {0}
+
+-- the entry of that name is the put that a get returned
+abbrev pub IsReturned : EntryLists → Returned → OpName → Type 0
+IsReturned all got name = item_at all name ≡ Some (Put got.key (option_copied got.value) got.version)
+
+-- the entry of that name is a get, which is stored with what it returned at that number
+abbrev pub IsGetAt : KeptEntries → OpName → ℕ → Type 0
+IsGetAt entries name n = (key version : ℕ) × (value : Option (List ℕ)) × (item_at entries.all name ≡ Some (Got key value version))
+    × (slice_get entries.gets n ≡ Some (Got key value version))
+
+-- each get that is stored with what it returned is at some number
+abbrev pub HasGets : KeptEntries → Type 0
+HasGets entries = (name : OpName) (key version : ℕ) (value : Option (List ℕ)) → item_at entries.all name ≡ Some (Got key value version)
+    → (n : ℕ) × (slice_get entries.gets n ≡ Some (Got key value version))
+
+-- the entry of that name is a get that names the put of that number
+abbrev pub NamesPut : KeptEntries → OpName → ℕ → Type 0
+NamesPut entries name n = (put : OpName) × (slice_get entries.names n ≡ Some put)
+    × (key version : ℕ) × (item_at entries.all name ≡ Some (Sourced key (record { name = put; number = n }) version))
+
+-- no client but this one loses room
+abbrev pub KeepsOthersRoom : ℕ → List Bool → List Bool → Type 0
+KeepsOthersRoom client old new = (c : ℕ) → c ≢ client → slice_index_or old c false ≡ true → slice_index_or new c false ≡ true
 
 -- the entry that a reference borrows
 abbrev pub referred : StoredOpRef → StoredOp

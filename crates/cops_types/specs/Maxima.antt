@@ -1,8 +1,10 @@
 -- The maxima of sessions: the greatest version that each has put or got.
-use Rattle.std.specs.Prelude.{◌≡◌, ◌<◌, ◌≤◌, ◌⊎◌, ℕ, [], length, slice_index_or, true, false}
+use Rattle.std.specs.Prelude.{◌≡◌, ◌<◌, ◌≤◌, ◌⊎◌, ℕ, List, [], length, slice_index_or, true, false}
 use Rattle.cops_types.specs.declared.op.OpName.{OpName}
+use Rattle.cops_types.specs.declared.entry.StoredOp.{StoredOp}
 use Rattle.cops_types.specs.declared.maxima.Maxima.{Maxima}
-use Rattle.cops_types.specs.Histories.{Sessions}
+use Rattle.cops_types.specs.Entries.{EntryLists, reported}
+use Rattle.cops_types.specs.Histories.{Sessions, Operation, with_op}
 use Rattle.cops_types.specs.Faults.{HasVersion, IsNotAbove}
 use Rattle.cops_types.specs.Verdicts.{AllAbove}
 
@@ -28,3 +30,8 @@ pub record AreSessionMaxima (h : Sessions) (maxima : Maxima) : Type 0 where
   pub session_not_above : (client : ℕ) → client < length h → slice_index_or maxima.rise.items client false ≡ false → HasNotAbove h client
   pub above : maxima.are_above ≡ true → AllAbove h
   pub not_above : maxima.are_above ≡ false → (name : OpName) × (earlier : OpName) × IsNotAbove h name earlier
+
+-- if the entry stands for a client's next operation, it turns the maxima of a history into those with the operation
+abbrev pub TakesEntry : ℕ → StoredOp → Maxima → Maxima → Type 0
+TakesEntry client entry old new = (keys : List (List ℕ)) (all : EntryLists) (h : Sessions) (op : Operation) → reported keys all entry ≡ op
+    → AreSessionMaxima h old → AreSessionMaxima (with_op h client op) new

@@ -1,8 +1,9 @@
 -- The model of a history.
-use Rattle.std.specs.Prelude.{◌≡◌, ℕ, ◌<◌, ◌≤◌, List, [], length, slice_index_or, slice_get, Option, Some, Bool, true, false}
+use Rattle.std.specs.Prelude.{◌≡◌, ◌⊎◌, ℕ, ◌<◌, ◌≤◌, List, [], length, slice_index_or, slice_get, Option, Some, Bool, true, false}
 use Rattle.cops_types.specs.declared.limits.TheConstants.{MAX_CLIENT_OPS, MAX_CLIENTS, MAX_OPS}
 use Rattle.cops_types.specs.declared.op.OpName.{OpName}
-use Rattle.cops_types.specs.Histories.{Sessions, IsNamed, Operation, op_at}
+use Rattle.cops_types.specs.Histories.{Sessions, IsNamed, Operation, SourceStep, op_at}
+use Rattle.cops_types.specs.Operations.{GetsVersion}
 use Rattle.cops_types.specs.Counts.{count_of}
 use Rattle.cops_types.specs.Lists.{number_at}
 
@@ -44,3 +45,8 @@ KeepsPending old new = (name : OpName) → IsNamed old.sessions name → number_
 -- the get of that name is the pending read of that number
 abbrev pub IsPendingAt : Recorded → ℕ → OpName → Type 0
 IsPendingAt r number got = (op : Operation) × (slice_get r.gets number ≡ Some op) × (op_at r.sessions got ≡ Some op)
+
+-- each get that returned something is a pending read or has its source
+abbrev pub ArePendingOrSourced : Recorded → Type 0
+ArePendingOrSourced r = (got : OpName) (version : ℕ) → GetsVersion r.sessions got version
+    → ((number : ℕ) × IsPendingAt r number got) ⊎ ((put : OpName) × SourceStep r.sessions put got)

@@ -1,16 +1,15 @@
 ghost use Rattle.std.specs.Prelude.{◌≡◌, ◌≢◌, ◌<◌, ◌≤◌, ◌↔◌, ℕ, [], Some, true, false, length, map, option_copied, replicate, slice_index_or, vec_capacity, IfOk, IfSome};
 ghost use Rattle.cops_types.specs.Lists.{item_at, with_item};
-ghost use Rattle.cops_types.specs.Entries.{referred};
+ghost use Rattle.cops_types.specs.Entries.{KeepsOthersRoom, referred};
 ghost use Rattle.cops_types.specs.Slots.{IsFrom, IsThere, got_shown, shown, versioned};
 ghost use Rattle.cops_types.specs.declared.slot.OpSlot.TheVariants.{Put as PutSlot, Got as GotSlot, Sourced as SourcedSlot};
 ghost use Rattle.cops_types.specs.declared.limits.TheConstants.{MAX_CLIENT_OPS};
 
 use crate::blocks::Blocks;
-use crate::entry::{NumberedPut, StoredOp, StoredOpRef};
+use crate::entry::{NumberedPut, Returned, StoredOp, StoredOpRef};
 use crate::fault::Memory;
 use crate::op::OpName;
 use crate::op_ref::is_same_content;
-use crate::op_view::ValueView;
 use crate::slot::{KeptGot, KeptPut, OpSlot, flagged};
 use crate::value::Value;
 use crate::version::Version;
@@ -53,7 +52,7 @@ impl Entries {
     ghost use Rattle.std.specs.Prelude.{◌≡◌, ◌≢◌, ◌<◌, ◌≤◌, ◌↔◌, ℕ, List, length, map, slice_get, slice_index_or, [], Option, Some, OnOk, IfOk, IfSome, IfNone, IsOk, IsTrue, replicate, true, false, vec_capacity, option_copied};
     ghost use Rattle.std.specs.Option.{option_map};
     ghost use Rattle.cops_types.specs.Lists.{item_at, number_at, with_item};
-    ghost use Rattle.cops_types.specs.Entries.{GainsEntry, HasSource, HasValue, IsNumbered, KeepsEntries, KeepsNumbers, ListsEntries, referred, value_put};
+    ghost use Rattle.cops_types.specs.Entries.{GainsEntry, HasGets, HasSource, HasValue, IsGetAt, IsNumbered, IsReturned, KeepsEntries, KeepsNumbers, KeepsOthersRoom, ListsEntries, NamesPut, referred, value_put};
     ghost use Rattle.cops_types.specs.Recorded.{AreNumbered};
     ghost use Rattle.cops_types.specs.declared.entry.StoredOp.TheVariants.{Put, Got, Sourced, Missed};
     ghost use Rattle.cops_types.specs.declared.limits.TheConstants.{MAX_CLIENT_OPS, MAX_OPS};
@@ -96,8 +95,7 @@ impl Entries {
     /// The number of gets stored with what they returned, which is the number of the next one.
     pub(crate) fn gets(&self) -> usize
         ensures count { result ≡ length self.now.gets }
-        ensures kept { (name : OpName) (key version : ℕ) (value : Option (List ℕ)) → item_at self.now.all name ≡ Some (Got key value version)
-            → (n : ℕ) × (slice_get self.now.gets n ≡ Some (Got key value version)) }
+        ensures kept { HasGets self.now }
         ensures numbered { AreNumbered self.now.get_numbers (length self.now.gets) }
     {
         self.gets.len()
@@ -113,8 +111,7 @@ impl Entries {
     /// The number of the get of that name, if it is stored with what it returned.
     #[inline(always)]
     pub(crate) fn get_number(&self, name: OpName) -> Option<u32>
-        ensures number { IfSome result (λ n. (key version : ℕ) × (value : Option (List ℕ)) × (item_at self.now.all name ≡ Some (Got key value version))
-            × (slice_get self.now.gets n ≡ Some (Got key value version))) }
+        ensures number { IfSome result (IsGetAt self.now name) }
         ensures none { IfNone result ((key version : ℕ) (value : Option (List ℕ)) → item_at self.now.all name ≢ Some (Got key value version)) }
         ensures numbered { result ≡ number_at self.now.get_numbers name }
     {
@@ -143,8 +140,7 @@ impl Entries {
     /// The number of the put to which the get of that name refers, if it refers to one.
     #[inline(always)]
     pub(crate) fn source_number(&self, name: OpName) -> Option<u32>
-        ensures { IfSome result (λ n. (put : OpName) × (slice_get self.now.names n ≡ Some put)
-            × (key version : ℕ) × (item_at self.now.all name ≡ Some (Sourced key (record { name = put; number = n }) version))) }
+        ensures { IfSome result (NamesPut self.now name) }
     {
         source_number_at(&self.sessions, name)
     }
@@ -196,20 +192,14 @@ impl Entries {
         }
     }
 
-    /// The put of that number, if it is a put of this key, value and version.
+    /// The put of that number, if it is the one that a get returned: a put of this key, value and version.
     #[inline(always)]
-    pub(crate) fn source(
-        &self,
-        number: u32,
-        key: u32,
-        value: Option<&ValueView<'_>>,
-        version: Version,
-    ) -> Option<NumberedPut>
-        ensures put { IfSome result (λ put. item_at self.now.all put.name ≡ Some (Put key (option_copied value.entry) version)) }
+    pub(crate) fn source(&self, number: u32, got: &Returned<'_>) -> Option<NumberedPut>
+        ensures put { IfSome result (λ put. IsReturned self.now.all got.now put.name) }
         ensures number { IfSome result (λ put. slice_get self.now.names put.number ≡ Some put.name) }
     {
         let put = self.puts.get(number as usize)?;
-        if put.version == version && put.key == key && put.has_content(value) {
+        if put.version == got.version && put.key == got.key && put.has_content(got.value) {
             let name = put.name;
             return Some(NumberedPut { name, number });
         }
@@ -293,7 +283,7 @@ impl Entries {
         ensures all { self.new.all ≡ with_item self.old.all client entry }
         ensures gains { GainsEntry entry self.old self.new }
         ensures numbers { KeepsNumbers self.old self.new }
-        ensures others { (c : ℕ) → c ≢ client → slice_index_or self.old.room c false ≡ true → slice_index_or self.new.room c false ≡ true }
+        ensures others { KeepsOthersRoom client self.old.room self.new.room }
     {
         match entry {
             StoredOp::Put {
@@ -322,7 +312,7 @@ impl Entries {
         ensures all { self.new.all ≡ with_item self.old.all client (Put key value version) }
         ensures gains { GainsEntry (Put key value version) self.old self.new }
         ensures numbers { KeepsNumbers self.old self.new }
-        ensures others { (c : ℕ) → c ≢ client → slice_index_or self.old.room c false ≡ true → slice_index_or self.new.room c false ≡ true }
+        ensures others { KeepsOthersRoom client self.old.room self.new.room }
     {
         let number = self.puts.len() as u32;
         let name = OpName {
@@ -351,7 +341,7 @@ impl Entries {
         ensures all { self.new.all ≡ with_item self.old.all client (Got key value version) }
         ensures gains { GainsEntry (Got key value version) self.old self.new }
         ensures numbers { KeepsNumbers self.old self.new }
-        ensures others { (c : ℕ) → c ≢ client → slice_index_or self.old.room c false ≡ true → slice_index_or self.new.room c false ≡ true }
+        ensures others { KeepsOthersRoom client self.old.room self.new.room }
     {
         let number = self.gets.len() as u32;
         push_slot(&mut self.sessions, client, OpSlot::Got(number));
@@ -375,7 +365,7 @@ impl Entries {
         ensures all { self.new.all ≡ with_item self.old.all client (Sourced key put version) }
         ensures gains { GainsEntry (Sourced key put version) self.old self.new }
         ensures numbers { KeepsNumbers self.old self.new }
-        ensures others { (c : ℕ) → c ≢ client → slice_index_or self.old.room c false ≡ true → slice_index_or self.new.room c false ≡ true }
+        ensures others { KeepsOthersRoom client self.old.room self.new.room }
     {
         push_slot(&mut self.sessions, client, OpSlot::Sourced(put.number));
     }
@@ -389,7 +379,7 @@ impl Entries {
         ensures all { self.new.all ≡ with_item self.old.all client (Missed key) }
         ensures gains { GainsEntry (Missed key) self.old self.new }
         ensures numbers { KeepsNumbers self.old self.new }
-        ensures others { (c : ℕ) → c ≢ client → slice_index_or self.old.room c false ≡ true → slice_index_or self.new.room c false ≡ true }
+        ensures others { KeepsOthersRoom client self.old.room self.new.room }
     {
         push_slot(&mut self.sessions, client, OpSlot::Missed(key));
     }
@@ -424,8 +414,7 @@ fn push_slot(sessions: &mut Vec<Blocks>, client: u16, slot: OpSlot)
     requires room { slice_index_or (map (λ s. s.room) sessions.old.items) client false ≡ true }
     requires few { length (slice_index_or (map (λ s. s.items) sessions.old.items) client []) < MAX_CLIENT_OPS }
     ensures slots { map (λ s. s.items) sessions.new.items ≡ with_item (map (λ s. s.items) sessions.old.items) client slot }
-    ensures others { (c : ℕ) → c ≢ client → slice_index_or (map (λ s. s.room) sessions.old.items) c false ≡ true
-        → slice_index_or (map (λ s. s.room) sessions.new.items) c false ≡ true }
+    ensures others { KeepsOthersRoom client (map (λ s. s.room) sessions.old.items) (map (λ s. s.room) sessions.new.items) }
 {
     let session = &mut sessions[client as usize];
     session.push(slot);

@@ -1,4 +1,5 @@
 use crate::op::OpName;
+use crate::op_view::ValueView;
 use crate::value::Value;
 use crate::version::Version;
 
@@ -7,6 +8,14 @@ use crate::version::Version;
 pub(crate) struct NumberedPut {
     pub(crate) name: OpName,
     pub(crate) number: u32,
+}
+
+/// What a get returned, with the number of its key: no value if it found a deletion.
+#[derive(Clone, Copy, Debug)]
+pub(crate) struct Returned<'a> {
+    pub(crate) key: u32,
+    pub(crate) value: Option<&'a ValueView<'a>>,
+    pub(crate) version: Version,
 }
 
 /// An operation to be added to a history. A number stands for its key.

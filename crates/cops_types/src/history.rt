@@ -1,26 +1,18 @@
-ghost use Rattle.std.specs.Prelude.{◌≡◌, ◌<◌, ◌+◌, ℕ, List, [], Some, IfOk, IfSome, OnErr, OnOk, length, option_copied, slice_get, slice_index_or};
 ghost use Rattle.cops_types.specs.declared.limits.TheConstants.{MAX_CLIENT_OPS, MAX_OPS};
-ghost use Rattle.cops_types.specs.declared.entry.StoredOp.TheVariants.{Put};
-ghost use Rattle.cops_types.specs.Entries.{AreSound, HasSource, IsNumbered, IsSound, key_number_of, reported};
-ghost use Rattle.cops_types.specs.Lists.{item_at};
-ghost use Rattle.cops_types.specs.KeySets.{AreDistinct, GainsKey};
-ghost use Rattle.cops_types.specs.Histories.{read};
-ghost use Rattle.cops_types.specs.Operations.{key_of, operation_of};
-ghost use Rattle.cops_types.specs.OpViews.{viewed};
+ghost use Rattle.cops_types.specs.KeySets.{AreDistinct};
 
+use crate::adding::{borrowed_entry, entry_of};
 use crate::entries::Entries;
-use crate::entry::{NumberedPut, StoredOp, StoredOpRef};
+use crate::entry::StoredOpRef;
 use crate::fault::{Memory, TypeFault};
-use crate::key::Key;
 use crate::key_set::KeySet;
 use crate::limits::{MAX_CLIENT_OPS, MAX_OPS};
+use crate::lookup::Lookup;
 use crate::maxima::Maxima;
 use crate::op::{Op, OpName};
 use crate::op_ref::OpRef;
-use crate::op_view::{KeyView, OpView, ValueView};
-use crate::prefetcher::{Candidate, Prefetcher};
+use crate::op_view::OpView;
 use crate::session_ref::SessionRef;
-use crate::value::Value;
 use crate::version::Version;
 use crate::versioned_put::VersionedPut;
 use std::alloc::{AllocError, Global};
@@ -37,7 +29,7 @@ pub struct History {
     reservations: usize,
     len: usize,
     maxima: Maxima,
-    prefetcher: Prefetcher,
+    lookup: Lookup,
 }
 
 impl Model for History {
@@ -70,7 +62,7 @@ impl History {
     ghost use Rattle.cops_types.specs.OpViews.{viewed};
     ghost use Rattle.cops_types.specs.Counts.{count_of, put_count};
     ghost use Rattle.cops_types.specs.PutLists.{AreAllPuts};
-    ghost use Rattle.cops_types.specs.Recorded.{AreNumbered, IsFull, IsPendingAt, IsWithinLimits, HasRoom, KeepsPending};
+    ghost use Rattle.cops_types.specs.Recorded.{AreNumbered, ArePendingOrSourced, IsFull, IsPendingAt, IsWithinLimits, HasRoom, KeepsPending};
     ghost use Rattle.cops_types.specs.TypeFaults.{IsHistoryFault};
     ghost use Rattle.cops_types.specs.Faults.{IsNotAbove};
     ghost use Rattle.cops_types.specs.Lists.{number_at};
@@ -91,7 +83,7 @@ impl History {
             reservations: 0,
             len: 0,
             maxima,
-            prefetcher: Prefetcher::new(alloc),
+            lookup: Lookup::new(alloc),
         })
     }
 
@@ -137,7 +129,7 @@ impl History {
 
     /// Whether prefetching is useful. If not, the memory that later operations need is in the caches anyway.
     pub fn looks_ahead(&self) -> bool {
-        self.prefetcher.looks_ahead(&self.keys)
+        self.lookup.looks_ahead(&self.keys)
     }
 
     /// Prefetches the memory that these operations need, on the assumption that they are added next and in this order.
@@ -145,14 +137,14 @@ impl History {
     pub fn prefetch(&mut self, coming: &[OpView<'_>])
         ensures { self.new ≡ self.old }
     {
-        self.prefetcher.prefetch(&self.keys, &self.entries, coming);
+        self.lookup.prefetch(&self.keys, &self.entries, coming);
     }
 
     /// Drops the candidates that only speed up adding operations. The history does not change.
     pub fn forget_candidates(&mut self)
         ensures { self.new ≡ self.old }
     {
-        self.prefetcher.forget();
+        self.lookup.forget();
     }
 
     /// Whether the client may have one more operation.
@@ -202,7 +194,7 @@ impl History {
         let more = self.reservations + 1;
         self.entries.reserve(client, more)?;
         self.keys.reserve(more)?;
-        self.prefetcher.grow(&self.keys, self.len);
+        self.lookup.grow(&self.keys, self.len);
         self.reserved[client as usize] = true;
         self.reservations = more;
         Ok(())
@@ -219,7 +211,7 @@ impl History {
         ensures pending { KeepsPending self.old self.new }
         ensures others { (c : ℕ) → c ≢ client → HasRoom self.old c → HasRoom self.new c }
     {
-        let entry = entry_of(&mut self.keys, &mut self.prefetcher, &self.entries, op);
+        let entry = entry_of(&mut self.keys, &mut self.lookup, &self.entries, op);
         self.maxima.take_in(client, &entry);
         self.entries.push(client, entry);
         self.reserved[client as usize] = false;
@@ -242,13 +234,7 @@ impl History {
     {
         let alloc = *self.reserved.allocator();
         let place = client as usize;
-        let entry = op_of_borrowed(
-            alloc,
-            &mut self.keys,
-            &mut self.prefetcher,
-            &self.entries,
-            op,
-        )?;
+        let entry = borrowed_entry(alloc, &mut self.keys, &mut self.lookup, &self.entries, op)?;
         self.maxima.take_in(client, &entry);
         self.entries.push(client, entry);
         self.reserved[place] = false;
@@ -302,8 +288,7 @@ impl History {
         ensures count { result ≡ length self.now.gets }
         ensures few { result ≤ count_of self.now.sessions }
         ensures limits { IsWithinLimits self.now.sessions }
-        ensures others { (got : OpName) (version : ℕ) → GetsVersion self.now.sessions got version
-            → ((number : ℕ) × IsPendingAt self.now number got) ⊎ ((put : OpName) × SourceStep self.now.sessions put got) }
+        ensures others { ArePendingOrSourced self.now }
         ensures numbered { AreNumbered self.now.get_numbers result }
     {
         self.entries.gets()
@@ -481,291 +466,4 @@ impl History {
             StoredOpRef::Put { .. } | StoredOpRef::Missed { .. } => false,
         }
     }
-}
-
-/// The entry of an operation, whose key is added if it is new.
-#[inline(always)]
-fn entry_of(keys: &mut KeySet, prefetcher: &mut Prefetcher, entries: &Entries, op: Op) -> StoredOp
-    requires sound { AreSound keys.old.keys entries.now.all }
-    requires distinct { AreDistinct keys.old.keys }
-    requires few { length keys.old.keys < MAX_OPS }
-    requires room { 0 < keys.old.spare }
-    ensures reported { reported keys.new.keys entries.now.all result ≡ operation_of op }
-    ensures sound { IsSound keys.new.keys entries.now.all result }
-    ensures numbered { IsNumbered entries.now.names result }
-    ensures gains { GainsKey keys.old keys.new }
-{
-    let candidate = prefetcher.next();
-    let known = known_number(keys, prefetcher, &op.as_key_view(), candidate.key);
-    match op {
-        Op::Put {
-            key,
-            value,
-            version,
-        } => {
-            let key = number_of(keys, prefetcher, key, known);
-            put_entry(prefetcher, entries, key, Some(value), version)
-        }
-        Op::Del { key, version } => {
-            let key = number_of(keys, prefetcher, key, known);
-            put_entry(prefetcher, entries, key, None, version)
-        }
-        Op::Got {
-            key,
-            value,
-            version,
-        } => {
-            let key = number_of(keys, prefetcher, key, known);
-            got_entry(
-                prefetcher,
-                entries,
-                candidate.put,
-                key,
-                Some(value),
-                version,
-            )
-        }
-        Op::Gone { key, version } => {
-            let key = number_of(keys, prefetcher, key, known);
-            got_entry(prefetcher, entries, candidate.put, key, None, version)
-        }
-        Op::Missed { key } => StoredOp::Missed {
-            key: number_of(keys, prefetcher, key, known),
-        },
-    }
-}
-
-/// The entry of a borrowed operation, whose key is added if it is new. Adds nothing if memory runs out.
-#[inline(always)]
-fn op_of_borrowed(
-    alloc: Global,
-    keys: &mut KeySet,
-    prefetcher: &mut Prefetcher,
-    entries: &Entries,
-    op: &OpView<'_>,
-) -> Result<StoredOp, Memory>
-    requires sound { AreSound keys.old.keys entries.now.all }
-    requires distinct { AreDistinct keys.old.keys }
-    requires few { length keys.old.keys < MAX_OPS }
-    requires room { 0 < keys.old.spare }
-    ensures reported { IfOk result (λ entry. reported keys.new.keys entries.now.all entry ≡ viewed op.now) }
-    ensures sound { IfOk result (λ entry. IsSound keys.new.keys entries.now.all entry) }
-    ensures numbered { IfOk result (IsNumbered entries.now.names) }
-    ensures gains { OnOk result (GainsKey keys.old keys.new) }
-    ensures same { OnErr result (keys.new ≡ keys.old) }
-{
-    let candidate = prefetcher.next();
-    let known = known_number(keys, prefetcher, op.key(), candidate.key);
-    match op {
-        OpView::Put {
-            key,
-            value,
-            version,
-        } => {
-            let value = copy_of_borrowed(alloc, value.as_ref())?;
-            let key = number_of_seen(alloc, keys, prefetcher, key, known)?;
-            Ok(put_entry(prefetcher, entries, key, value, *version))
-        }
-        OpView::Got {
-            key,
-            value,
-            version,
-        } => {
-            let value = value.as_ref();
-            if let Some(key) = known {
-                return known_got_entry(
-                    alloc,
-                    prefetcher,
-                    entries,
-                    candidate.put,
-                    key,
-                    value,
-                    *version,
-                );
-            }
-            // (once the key is added nothing may fail; the copy is dropped where the put is found)
-            let value = copy_of_borrowed(alloc, value)?;
-            let key = number_of_seen(alloc, keys, prefetcher, key, None)?;
-            Ok(got_entry(prefetcher, entries, candidate.put, key, value, *version))
-        }
-        OpView::Missed { key } => {
-            let key = number_of_seen(alloc, keys, prefetcher, key, known)?;
-            Ok(StoredOp::Missed { key })
-        }
-    }
-}
-
-/// The entry of a put of the key of that number. The put becomes the candidate for the gets of its version.
-#[inline(always)]
-fn put_entry(
-    prefetcher: &mut Prefetcher,
-    entries: &Entries,
-    key: u32,
-    value: Option<Value>,
-    version: Version,
-) -> StoredOp
-    ensures { result ≡ Put key value version }
-{
-    prefetcher.store_put(version, entries.puts());
-    StoredOp::Put {
-        key,
-        value,
-        version,
-    }
-}
-
-/// The entry of a get of the key of that number. It refers to its put if a candidate is right, and stores the value if
-/// not.
-#[inline(always)]
-fn got_entry(
-    prefetcher: &Prefetcher,
-    entries: &Entries,
-    candidate: Option<u32>,
-    key: u32,
-    value: Option<Value>,
-    version: Version,
-) -> StoredOp
-    ensures reported { (keys : List (List ℕ)) → reported keys entries.now.all result ≡ read (slice_index_or keys key []) value version }
-    ensures key { key_number_of result ≡ key }
-    ensures source { HasSource entries.now.all result }
-    ensures numbered { IsNumbered entries.now.names result }
-{
-    let source = match &value {
-        Some(value) => source_of(
-            prefetcher,
-            entries,
-            candidate,
-            key,
-            Some(&value.as_view()),
-            version,
-        ),
-        None => source_of(prefetcher, entries, candidate, key, None, version),
-    };
-    match source {
-        Some(put) => StoredOp::Sourced { key, put, version },
-        None => StoredOp::Got {
-            key,
-            value,
-            version,
-        },
-    }
-}
-
-/// The entry of a get whose value is borrowed, and is copied only where no put is named.
-#[inline(always)]
-fn known_got_entry(
-    alloc: Global,
-    prefetcher: &Prefetcher,
-    entries: &Entries,
-    candidate: Option<u32>,
-    key: u32,
-    value: Option<&ValueView<'_>>,
-    version: Version,
-) -> Result<StoredOp, Memory>
-    ensures reported { IfOk result (λ entry. (keys : List (List ℕ)) → reported keys entries.now.all entry
-        ≡ read (slice_index_or keys key []) (option_copied value.entry) version) }
-    ensures key { IfOk result (λ entry. key_number_of entry ≡ key) }
-    ensures source { IfOk result (HasSource entries.now.all) }
-    ensures numbered { IfOk result (IsNumbered entries.now.names) }
-{
-    match source_of(prefetcher, entries, candidate, key, value, version) {
-        Some(put) => Ok(StoredOp::Sourced { key, put, version }),
-        None => Ok(StoredOp::Got {
-            key,
-            value: copy_of_borrowed(alloc, value)?,
-            version,
-        }),
-    }
-}
-
-/// A copy of a borrowed value, or that there is none.
-#[inline(always)]
-fn copy_of_borrowed(alloc: Global, value: Option<&ValueView<'_>>) -> Result<Option<Value>, Memory>
-    ensures { IfOk result (λ copy. copy ≡ option_copied value.entry) }
-{
-    match value {
-        Some(value) => Ok(Some(value.to_value(alloc)?)),
-        None => Ok(None),
-    }
-}
-
-/// The number of a key, if the candidate or the table of candidates is right.
-#[inline(always)]
-fn known_number(
-    keys: &KeySet,
-    prefetcher: &Prefetcher,
-    key: &KeyView<'_>,
-    candidate: Option<u32>,
-) -> Option<u32>
-    ensures { IfSome result (λ number. slice_get keys.now.keys number ≡ Some key.now) }
-{
-    match candidate {
-        Some(number) if keys.is_at(number, key) => Some(number),
-        _ => prefetcher.number_of(keys, key),
-    }
-}
-
-/// The number of a key: the known one, or else the one that a search finds, which adds a new key and stores the number
-/// as a candidate.
-#[inline(always)]
-fn number_of(keys: &mut KeySet, prefetcher: &mut Prefetcher, key: Key, known: Option<u32>) -> u32
-    requires known { IfSome known (λ number. slice_get keys.old.keys number ≡ Some key) }
-    requires few { length keys.old.keys < MAX_OPS }
-    requires room { 0 < keys.old.spare }
-    requires distinct { AreDistinct keys.old.keys }
-    ensures found { slice_get keys.new.keys result ≡ Some key }
-    ensures gains { GainsKey keys.old keys.new }
-{
-    if let Some(number) = known {
-        drop(key);
-        return number;
-    }
-    let number = keys.number(key);
-    prefetcher.store_key(&keys.key(number).as_view(), number);
-    number
-}
-
-/// The number of a borrowed key: the known one, or else that of a copy. Fails if memory runs out.
-#[inline(always)]
-fn number_of_seen(
-    alloc: Global,
-    keys: &mut KeySet,
-    prefetcher: &mut Prefetcher,
-    key: &KeyView<'_>,
-    known: Option<u32>,
-) -> Result<u32, Memory>
-    requires known { IfSome known (λ number. slice_get keys.old.keys number ≡ Some key.now) }
-    requires few { length keys.old.keys < MAX_OPS }
-    requires room { 0 < keys.old.spare }
-    requires distinct { AreDistinct keys.old.keys }
-    ensures found { IfOk result (λ number. slice_get keys.new.keys number ≡ Some key.now) }
-    ensures gains { OnOk result (GainsKey keys.old keys.new) }
-    ensures same { OnErr result (keys.new ≡ keys.old) }
-{
-    if let Some(number) = known {
-        return Ok(number);
-    }
-    let copied = key.to_key(alloc)?;
-    Ok(number_of(keys, prefetcher, copied, None))
-}
-
-/// The put that a get of the key of that number returned, if a candidate is right: it wrote this to the key with this
-/// version.
-#[inline(always)]
-fn source_of(
-    prefetcher: &Prefetcher,
-    entries: &Entries,
-    candidate: Option<u32>,
-    key: u32,
-    value: Option<&ValueView<'_>>,
-    version: Version,
-) -> Option<NumberedPut>
-    ensures put { IfSome result (λ put. item_at entries.now.all put.name ≡ Some (Put key (option_copied value.entry) version)) }
-    ensures number { IfSome result (λ put. slice_get entries.now.names put.number ≡ Some put.name) }
-{
-    let number = match candidate {
-        Some(number) => number,
-        None => prefetcher.put_of(version)?,
-    };
-    entries.source(number, key, value, version)
 }

@@ -4,6 +4,7 @@
 //! list of sessions, and the definitions of causal convergence, faults and verdicts in `specs/`.
 #![tactic(auto)]
 
+mod adding;
 mod blocks;
 mod candidates;
 mod clock;
@@ -19,11 +20,11 @@ mod history;
 mod key;
 mod key_set;
 mod limits;
+mod lookup;
 mod maxima;
 mod op;
 mod op_ref;
 mod op_view;
-mod prefetcher;
 mod put_record;
 mod refusal;
 mod selection;

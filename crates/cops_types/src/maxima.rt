@@ -1,7 +1,5 @@
-ghost use Rattle.std.specs.Prelude.{◌≡◌, ◌<◌, ℕ, List, [], false, IfOk, length, replicate, slice_index_or};
-ghost use Rattle.cops_types.specs.Entries.{EntryLists, reported};
-ghost use Rattle.cops_types.specs.Maxima.{AreSessionMaxima};
-ghost use Rattle.cops_types.specs.Histories.{Sessions, Operation, with_op};
+ghost use Rattle.std.specs.Prelude.{◌≡◌, ◌<◌, [], false, IfOk, length, replicate, slice_index_or};
+ghost use Rattle.cops_types.specs.Maxima.{AreSessionMaxima, TakesEntry};
 
 use crate::entry::StoredOp;
 use std::alloc::{AllocError, Global};
@@ -49,8 +47,7 @@ impl Maxima {
     pub(crate) fn take_in(&mut self, client: u16, entry: &StoredOp)
         requires maximum { client < length self.old.sessions.items }
         requires flag { client < length self.old.rise.items }
-        ensures { (keys : List (List ℕ)) (all : EntryLists) (h : Sessions) (op : Operation) → reported keys all entry.now ≡ op
-            → AreSessionMaxima h self.old → AreSessionMaxima (with_op h client op) self.new }
+        ensures { TakesEntry client entry.now self.old self.new }
     {
         let maximum = self.sessions[client as usize];
         match entry {

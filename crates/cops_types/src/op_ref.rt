@@ -1,7 +1,6 @@
-ghost use Rattle.std.specs.Prelude.{◌≡◌, ◌↔◌, ℕ, List, Option, IfOk, IsTrue, option_copied};
-ghost use Rattle.cops_types.specs.Histories.{read, write};
+ghost use Rattle.std.specs.Prelude.{◌≡◌, ◌↔◌, IfOk, IsTrue, option_copied};
 ghost use Rattle.cops_types.specs.OpRefs.{seen};
-ghost use Rattle.cops_types.specs.Operations.{operation_of};
+ghost use Rattle.cops_types.specs.Operations.{IsReadBy, operation_of};
 
 use crate::key::Key;
 use crate::op::Op;
@@ -93,8 +92,7 @@ impl OpRef<'_> {
     /// Whether this is a put, and the other a get that returned it: its key, its version, and its value or that it is a
     /// deletion.
     pub fn is_source_of(&self, got: &OpRef<'_>) -> bool
-        ensures { IsTrue result ↔ ((key : List ℕ) × (content : Option (List ℕ)) × (version : ℕ)
-            × (seen self.now ≡ write key content version) × (seen got.now ≡ read key content version)) }
+        ensures { IsTrue result ↔ IsReadBy (seen self.now) (seen got.now) }
     {
         match (self, got) {
             (

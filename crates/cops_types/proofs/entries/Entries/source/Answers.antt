@@ -18,10 +18,10 @@ returns-then-has_content-clause-put c =
     let inside : c.args.number < length puts = subst (λ (l : List KeptPut). c.args.number < length l) c.deref.ensures.value c.in_ok-put.ensures.lookup.3.0 in
     let is : put ≡ get_or puts c.args.number put = subst (λ (l : List KeptPut). put ≡ get_or l c.args.number put) c.deref.ensures.value c.in_ok-put.ensures.lookup.1 in
     let at = slice_get_read puts (length puts) c.args.number put refl inside is in
-    let key : put.key ≡ c.args.key = c.if-put-key.true in
-    let version : put.version ≡ c.args.version = eqb-true put.version c.args.version (sym c.if-eq.ensures) in
-    let value : content_of put.has_value put.value ≡ option_copied c.args.value = c.if-has_content.ensures.0 refl in
-    let same : Some (Put put.key (content_of put.has_value put.value) put.version) ≡ Some (Put c.args.key (option_copied c.args.value) c.args.version) = cc in
+    let key : put.key ≡ c.args.got.now.key = c.if-put-got.true in
+    let version : put.version ≡ c.args.got.now.version = eqb-true put.version c.args.got.now.version (sym c.if-eq.ensures) in
+    let value : content_of put.has_value put.value ≡ option_copied c.args.got.now.value = c.if-has_content.ensures.0 refl in
+    let same : Some (Put put.key (content_of put.has_value put.value) put.version) ≡ Some (Put c.args.got.now.key (option_copied c.args.got.now.value) c.args.got.now.version) = cc in
     rw (← c.self.view_is) (put_at puts c.self.inside.gets.items slots c.self.invariant c.args.number put at ∙ same)
 
 pub returns-then-has_content-clause-number : goal.returns-then-has_content-clause-number

@@ -11,9 +11,9 @@ invariant_of-self-2 c =
     let all = c.self.inside.entries.all in
     let inside : c.args.client < length all = omega (arith, rw (← c.self.view_is) at c.requires.inside, length-map all (map (reported c.self.inside.keys.keys all))) in
     let made = c.in_ok-entry.ensures in
-    put_kept c.self.inside.keys c.op_of_borrowed.new.keys c.self.inside.entries c.push.new.self c.self.inside.maxima c.self.inside.reserved.items c.self.inside.reservations c.self.inside.len c.args.client c.in_ok-entry.entry (viewed c.args.op.now)
+    put_kept c.self.inside.keys c.borrowed_entry.new.keys c.self.inside.entries c.push.new.self c.self.inside.maxima c.self.inside.reserved.items c.self.inside.reservations c.self.inside.len c.args.client c.in_ok-entry.entry (viewed c.args.op.now)
     inside c.self.invariant made.gains made.sound made.reported c.push.ensures.all c.push.ensures.gains
-    c.take_in.new.self (c.take_in.ensures c.op_of_borrowed.new.keys.keys all (reported_by c.self.inside.keys.keys all) (viewed c.args.op.now) made.reported) (rw (← c.self.view_is) at c.requires.room) c.push.ensures.others
+    c.take_in.new.self (c.take_in.ensures c.borrowed_entry.new.keys.keys all (reported_by c.self.inside.keys.keys all) (viewed c.args.op.now) made.reported) (rw (← c.self.view_is) at c.requires.room) c.push.ensures.others
     (rw (← c.self.view_is) at c.requires.session) (rw (← c.self.view_is) at c.requires.all)
 
 pub returns-clause-ok : goal.returns-clause-ok
@@ -21,7 +21,7 @@ returns-clause-ok c =
     let all = c.self.inside.entries.all in
     let inside : c.args.client < length all = omega (arith, rw (← c.self.view_is) at c.requires.inside, length-map all (map (reported c.self.inside.keys.keys all))) in
     let made = c.in_ok-entry.ensures in
-    rw (← c.self.view_is) (put_reported c.self.inside.keys c.op_of_borrowed.new.keys c.self.inside.entries c.push.new.self c.self.inside.maxima c.self.inside.reserved.items c.self.inside.reservations c.self.inside.len c.args.client c.in_ok-entry.entry (viewed c.args.op.now)
+    rw (← c.self.view_is) (put_reported c.self.inside.keys c.borrowed_entry.new.keys c.self.inside.entries c.push.new.self c.self.inside.maxima c.self.inside.reserved.items c.self.inside.reservations c.self.inside.len c.args.client c.in_ok-entry.entry (viewed c.args.op.now)
     inside c.self.invariant made.gains made.sound made.reported c.push.ensures.all c.push.ensures.gains)
 
 pub returns-clause-pending : goal.returns-clause-pending

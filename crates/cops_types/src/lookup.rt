@@ -1,7 +1,11 @@
+//! Lookups of keys and puts that are faster than a search. Every answer is verified, and no answer says nothing, so the
+//! module can be replaced by one that answers nothing.
 ghost use Rattle.std.specs.Prelude.{◌≡◌, Some, IfSome, slice_get};
+ghost use Rattle.cops_types.specs.Entries.{IsReturned};
 
 use crate::candidates::Candidates;
 use crate::entries::Entries;
+use crate::entry::{NumberedPut, Returned};
 use crate::key_set::KeySet;
 use crate::op_view::{KeyView, OpView};
 use crate::version::Version;
@@ -42,8 +46,8 @@ struct PutCandidate {
 /// The candidates for an operation: the numbers of its key and of the put that it returned.
 #[derive(Clone, Copy, Debug)]
 pub(crate) struct Candidate {
-    pub(crate) key: Option<u32>,
-    pub(crate) put: Option<u32>,
+    key: Option<u32>,
+    put: Option<u32>,
 }
 
 /// An operation to be added: the place of its key, the version that it returned, and its candidates.
@@ -60,10 +64,10 @@ const NO_CANDIDATE: Candidate = Candidate {
     put: None,
 };
 
-/// Candidates for lookups. No clause speaks of them: the caller verifies each. The memory for many coming operations is
+/// Candidates for lookups, each of which is verified before it is an answer. The memory for many coming operations is
 /// prefetched at once, where fetching it for one after the other would wait for each.
 #[derive(Debug, Drop)]
-pub(crate) struct Prefetcher {
+pub(crate) struct Lookup {
     keys: Candidates<u32>,
     puts: Candidates<PutCandidate>,
     /// The candidates of the operations to be added, in their order.
@@ -72,10 +76,10 @@ pub(crate) struct Prefetcher {
     come: usize,
 }
 
-impl Prefetcher {
+impl Lookup {
     /// No candidates. Allocates nothing.
     pub(crate) fn new(alloc: Global) -> Self {
-        Prefetcher {
+        Lookup {
             keys: Candidates::new(alloc),
             puts: Candidates::new(alloc),
             coming: Vec::new(alloc),
@@ -160,9 +164,43 @@ impl Prefetcher {
         }
     }
 
+    /// The number of a key, if it is found at its candidate or in the table of candidates.
+    #[inline(always)]
+    pub(crate) fn key_number(
+        &self,
+        keys: &KeySet,
+        key: &KeyView<'_>,
+        candidate: Candidate,
+    ) -> Option<u32>
+        ensures { IfSome result (λ number. slice_get keys.now.keys number ≡ Some key.now) }
+    {
+        match candidate.key {
+            Some(number) if keys.is_at(number, key) => Some(number),
+            _ => self.key_in_table(keys, key),
+        }
+    }
+
+    /// The put that a get returned, if it is found at its candidate or in the table of candidates.
+    #[inline(always)]
+    pub(crate) fn source(
+        &self,
+        entries: &Entries,
+        got: &Returned<'_>,
+        candidate: Candidate,
+    ) -> Option<NumberedPut>
+        ensures put { IfSome result (λ put. IsReturned entries.now.all got.now put.name) }
+        ensures number { IfSome result (λ put. slice_get entries.now.names put.number ≡ Some put.name) }
+    {
+        let number = match candidate.put {
+            Some(number) => number,
+            None => put_among(&self.puts, Some(got.version))?,
+        };
+        entries.source(number, got)
+    }
+
     /// The number of a key, if the table has it, at the key's place or at the one next to it.
     #[inline(always)]
-    pub(crate) fn number_of(&self, keys: &KeySet, key: &KeyView<'_>) -> Option<u32>
+    fn key_in_table(&self, keys: &KeySet, key: &KeyView<'_>) -> Option<u32>
         ensures { IfSome result (λ number. slice_get keys.now.keys number ≡ Some key.now) }
     {
         let place = spread(key);
@@ -196,12 +234,6 @@ impl Prefetcher {
             number,
         };
         self.puts.store(place(version), candidate);
-    }
-
-    /// The candidate put for a version.
-    #[inline(always)]
-    pub(crate) fn put_of(&self, version: Version) -> Option<u32> {
-        put_among(&self.puts, Some(version))
     }
 }
 
