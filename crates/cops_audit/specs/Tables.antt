@@ -19,6 +19,14 @@ Rises puts = AllPairs (λ p q. p.version < q.version) puts
 abbrev pub Repeats : List VersionedPut → Type 0
 Repeats puts = (k : ℕ) × (k + 1 < length puts) × ((d : VersionedPut) → (slice_index_or puts (k + 1) d).version ≤ (slice_index_or puts k d).version)
 
+-- the put at this place has this version
+abbrev pub IsPlaceOf : List VersionedPut → ℕ → ℕ → Type 0
+IsPlaceOf puts version place = (d : VersionedPut) → (slice_index_or puts place d).version ≡ version
+
+-- no put has this version
+abbrev pub HasNone : List VersionedPut → ℕ → Type 0
+HasNone puts version = (k : ℕ) (d : VersionedPut) → k < length puts → (slice_index_or puts k d).version ≢ version
+
 -- the put before or after this place has the same version
 abbrev pub HasEqualNeighbour : List VersionedPut → ℕ → Type 0
 HasEqualNeighbour puts place =

@@ -1,9 +1,8 @@
 //! Where versions are in a table of puts, faster than by a binary search of the table. Every answer is verified in the
 //! table, so the module can be replaced by `table::place_of` alone.
 ghost use Rattle.cops_types.specs.declared.limits.TheConstants.{MAX_OPS};
-ghost use Rattle.std.specs.Prelude.{◌≡◌, ◌≢◌, ◌<◌, ◌≤◌, ℕ, IfSome, IfNone, IsTrue, length, slice_index_or};
-ghost use Rattle.cops_types.specs.declared.versioned_put.VersionedPut.{VersionedPut};
-ghost use Rattle.cops_audit.specs.Tables.{VersionsNeverFall};
+ghost use Rattle.std.specs.Prelude.{◌<◌, ◌≤◌, IfSome, IfNone, IsTrue, length};
+ghost use Rattle.cops_audit.specs.Tables.{HasNone, IsPlaceOf, VersionsNeverFall};
 
 use crate::put_places::NO_PLACE;
 use crate::table::place_of;
@@ -13,7 +12,7 @@ use std::alloc::{AllocError, Global};
 /// Whether the put at a place has this version.
 fn stands_at(table: &[VersionedPut], place: u32, version: Version) -> bool
     ensures inside { IsTrue result → place < length table.now }
-    ensures version { IsTrue result → (d : VersionedPut) → (slice_index_or table.now place d).version ≡ version }
+    ensures version { IsTrue result → IsPlaceOf table.now version place }
 {
     match table.get(place as usize) {
         Some(put) => put.version == version,
@@ -98,8 +97,8 @@ impl Buckets {
         requires few { length table.now ≤ MAX_OPS }
         requires in_order { VersionsNeverFall table.now }
         ensures inside { IfSome result (λ place. place < length table.now) }
-        ensures found { IfSome result (λ place. (d : VersionedPut) → (slice_index_or table.now place d).version ≡ version) }
-        ensures none { IfNone result ((k : ℕ) (d : VersionedPut) → k < length table.now → (slice_index_or table.now k d).version ≢ version) }
+        ensures found { IfSome result (IsPlaceOf table.now version) }
+        ensures none { IfNone result (HasNone table.now version) }
     {
         hinted_place(table, self.hint(table, version), version)
     }
@@ -124,8 +123,8 @@ fn first_within(table: &[VersionedPut], start: u32, end: u32, version: Version) 
 fn hinted_place(table: &[VersionedPut], hint: u32, version: Version) -> Option<usize>
     requires { VersionsNeverFall table.now }
     ensures inside { IfSome result (λ place. place < length table.now) }
-    ensures found { IfSome result (λ place. (d : VersionedPut) → (slice_index_or table.now place d).version ≡ version) }
-    ensures none { IfNone result ((k : ℕ) (d : VersionedPut) → k < length table.now → (slice_index_or table.now k d).version ≢ version) }
+    ensures found { IfSome result (IsPlaceOf table.now version) }
+    ensures none { IfNone result (HasNone table.now version) }
 {
     if stands_at(table, hint, version) {
         return Some(hint as usize);
@@ -157,8 +156,8 @@ fn hint_near(table: &[VersionedPut], version: Version, near: u32) -> u32 {
 pub fn place_near(table: &[VersionedPut], version: Version, near: u32) -> Option<usize>
     requires { VersionsNeverFall table.now }
     ensures inside { IfSome result (λ place. place < length table.now) }
-    ensures found { IfSome result (λ place. (d : VersionedPut) → (slice_index_or table.now place d).version ≡ version) }
-    ensures none { IfNone result ((k : ℕ) (d : VersionedPut) → k < length table.now → (slice_index_or table.now k d).version ≢ version) }
+    ensures found { IfSome result (IsPlaceOf table.now version) }
+    ensures none { IfNone result (HasNone table.now version) }
 {
     hinted_place(table, hint_near(table, version, near), version)
 }

@@ -1,4 +1,4 @@
-ghost use Rattle.std.specs.Prelude.{◌≡◌, ◌≢◌, ◌⊎◌, ◌<◌, ◌≤◌, ◌+◌, ◌↔◌, ℕ, IfOk, IfSome, IfNone, IsOk, IsTrue, OnOk, length, map, AllPairs, vec_len, vec_capacity, slice_index_or};
+ghost use Rattle.std.specs.Prelude.{◌≡◌, ◌<◌, ◌≤◌, ◌+◌, ◌↔◌, ℕ, IfOk, IfSome, IfNone, IsOk, IsTrue, OnOk, length, map, AllPairs, vec_len, vec_capacity, slice_index_or};
 ghost use Rattle.cops_types.specs.declared.op.OpName.{OpName};
 ghost use Rattle.cops_types.specs.Counts.{count_of};
 ghost use Rattle.cops_types.specs.Histories.{Sessions};
@@ -7,7 +7,7 @@ ghost use Rattle.cops_types.specs.Faults.{IsBefore};
 ghost use Rattle.cops_types.specs.VersionOrder.{IsDoubled};
 ghost use Rattle.cops_audit.specs.Names.{ListsAmong, names_left};
 ghost use Rattle.cops_types.specs.declared.versioned_put.VersionedPut.{VersionedPut};
-ghost use Rattle.cops_audit.specs.Tables.{AreDoubledPuts, HasEqualNeighbour, IsPutTable, Repeats, Rises, ReportDoubled, VersionsNeverFall};
+ghost use Rattle.cops_audit.specs.Tables.{AreDoubledPuts, HasEqualNeighbour, HasNone, IsPlaceOf, IsPutTable, Repeats, Rises, ReportDoubled, VersionsNeverFall};
 
 use crate::names::Names;
 use cops_types::{History, OpName, Version, VersionedPut};
@@ -56,8 +56,8 @@ pub fn is_rising(table: &[VersionedPut]) -> bool
 pub fn place_of(table: &[VersionedPut], version: Version) -> Option<usize>
     requires { VersionsNeverFall table.now }
     ensures inside { IfSome result (λ place. place < length table.now) }
-    ensures found { IfSome result (λ place. (d : VersionedPut) → (slice_index_or table.now place d).version ≡ version) }
-    ensures none { IfNone result ((k : ℕ) (d : VersionedPut) → k < length table.now → (slice_index_or table.now k d).version ≢ version) }
+    ensures found { IfSome result (IsPlaceOf table.now version) }
+    ensures none { IfNone result (HasNone table.now version) }
 {
     match table.binary_search_by_key(&version.as_u64(), |put| put.version.as_u64()) {
         Ok(place) => Some(place),
