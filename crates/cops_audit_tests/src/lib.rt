@@ -12,6 +12,8 @@ mod building;
 #[cfg(test)]
 mod convert;
 #[cfg(test)]
+mod lookups;
+#[cfg(test)]
 mod online;
 #[cfg(test)]
 mod pieces;
