@@ -179,3 +179,14 @@ pub is_analysis : (a : Analysis) (table : List VersionedPut) (keys : KeyIndex) �
     → IsVersionTable a.history.now.sessions table → IsSummarized a.history.now.sessions table a.summaries.now → IsKeyIndex a.history.now table keys
     → HaveSourcesOrWait a.history.now.sessions → AllAbove a.history.now.sessions → IsWithinLimits a.history.now.sessions → IsAnalysis a
 is_analysis a table keys same nexts by_key firsts is summarized linked sources above limits = search rules
+
+-- the put at a place is in one of the sessions
+pub put_inside : (table : List VersionedPut) (summaries : List (List Summary)) → AreRising table summaries → (place : ℕ) (put : OpName) (version : ℕ) → StandsAt table place put version → put.client < length summaries
+put_inside table summaries rising place put version stands = elim (cases_lt put.client (length summaries)) [
+  | inl less ↦ less
+  | inr le ↦
+      let own = rising.puts place put version stands in
+      let none : slice_index_or summaries put.client [] ≡ [] = past_end summaries put.client [] le in
+      let less = slice_get_inside (slice_index_or summaries put.client []) put.index _ own.1 in
+      absurd (omega (arith, less, ap length none))
+]

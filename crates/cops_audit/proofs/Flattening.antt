@@ -1,13 +1,10 @@
 -- Causal summaries, session by session in one list.
-use Rattle.std.proofs.Common.{◌≡◌, ◌<◌, ◌≤◌, ◌+◌, ◌-◌, ℕ, suc, List, [], ◌∷◌, ◌++◌, length, get_or, map, All, length-append, length-drop, take_all, refl, sym, ◌∙◌, ap, subst, inl, inr, arith, slice_index_or, drop, take}
-use Rattle.std.proofs.Math.Nat.{eq-or-lt_of_le}
-use Rattle.std.proofs.lemmas.List.{drop-append-le, drop_at, get_or-map, get_or_push, length-map, map_push, take-append-le}
+use Rattle.std.proofs.Common.{◌≡◌, ◌<◌, ◌+◌, ◌-◌, ℕ, suc, List, [], ◌∷◌, ◌++◌, length, map, All, length-append, length-drop, take_all, refl, ◌∙◌, ap, arith, slice_index_or, drop, take}
+use Rattle.std.proofs.lemmas.List.{drop-append-le, drop_at, length-map, map_push, take-append-le}
 use Rattle.std.proofs.lemmas.List.Elements.{All-push}
-use Rattle.cops_types.specs.Histories.{Sessions}
 use Rattle.cops_audit.specs.declared.flat.Span.{Span}
 use Rattle.cops_audit.specs.declared.summaries.Summary.{Summary}
-use Rattle.cops_types.specs.declared.versioned_put.VersionedPut.{VersionedPut}
-use Rattle.cops_audit.specs.Summaries.{IsSessionSummarized, IsWithin, span_of}
+use Rattle.cops_audit.specs.Summaries.{IsWithin, span_of}
 use Rattle.cops_audit.proofs.Summarizing.{get_high, get_low}
 
 module _ (summaries session : List Summary) where

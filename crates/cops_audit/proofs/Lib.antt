@@ -28,7 +28,6 @@ pub mod Linking
 pub mod Passing
 pub mod PastMarks
 pub mod Suspecting
-pub mod Clocking
 pub mod Clearing
 pub mod Gathering
 pub mod Raising
@@ -38,10 +37,8 @@ pub mod Sweeping
 pub mod Closing
 pub mod Flooring
 pub mod Bridging
-pub mod Chaining
 pub mod Reporting
 pub mod Classes
-pub mod Leaving
 pub mod Searching
 pub mod Counting
 pub mod Finding

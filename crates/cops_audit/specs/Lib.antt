@@ -1,5 +1,4 @@
 pub mod Analyses
-pub mod Clocks
 pub mod Keys
 pub mod KeyIndexes
 pub mod Names

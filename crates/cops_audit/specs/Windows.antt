@@ -4,9 +4,7 @@ use Rattle.cops_types.specs.declared.op.OpName.{OpName}
 use Rattle.cops_types.specs.Histories.{Sessions, IsGot, IsMissed, IsNamed, PutsKey, SourceStep}
 use Rattle.cops_types.specs.Faults.{IsBefore, IsNewer}
 use Rattle.cops_types.specs.declared.versioned_put.VersionedPut.{VersionedPut}
-use Rattle.cops_audit.specs.declared.verdict.Stale.{Stale}
 use Rattle.cops_audit.specs.declared.window.Suspect.{Suspect}
-use Rattle.cops_audit.specs.Names.{ListsStale}
 use Rattle.cops_audit.specs.Keys.{IsFirstOn, OnKey}
 use Rattle.cops_audit.specs.Summaries.{StandsAt}
 
@@ -39,14 +37,6 @@ pub record AreSuspects (h : Sessions) (table : List VersionedPut) (names : List 
   pub each : (s : Suspect) → Contains suspects s → IsSuspect h table s × Contains names s.op
   pub others : (name newer : OpName) (version : ℕ) → Contains names name → IsNewer h name newer version → (s : Suspect) × (s.op ≡ name) × Contains suspects s
   pub in_order : AllPairs (λ s t. IsBefore s.op t.op) suspects
-
--- suspects among any names are still suspects among these
-abbrev pub KeepsSuspects : Sessions → List VersionedPut → List Suspect → List Suspect → Type 0
-KeepsSuspects h table old new = (names : List OpName) → AreSuspects h table names old → AreSuspects h table names new
-
--- among the names of which these are the suspects, exactly these gets are stale
-abbrev pub AreStaleSuspects : Sessions → List VersionedPut → List Suspect → List Stale → Type 0
-AreStaleSuspects h table suspects faults = (names : List OpName) → AreSuspects h table names suspects → ListsStale h names faults
 
 -- no suspect has a put in its past that is newer than what it returned
 abbrev pub NoneNewerAmong : Sessions → List Suspect → Type 0

@@ -12,9 +12,7 @@
 
 mod analysis;
 mod assessing;
-mod cleared;
 mod climbing;
-mod clocks;
 mod epochs;
 mod fault;
 mod feed_fault;

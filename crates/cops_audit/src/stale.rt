@@ -6,10 +6,9 @@ ghost use Rattle.cops_audit.specs.Analyses.{IsAnalysis};
 ghost use Rattle.cops_audit.specs.Names.{ListsStale, names_left};
 ghost use Rattle.cops_audit.specs.Sweeps.{HasRoom, IsIdle};
 ghost use Rattle.cops_audit.specs.Floors.{AreFloors};
-ghost use Rattle.cops_audit.specs.Windows.{AreStaleSuspects, AreSuspects, AreSuspectsInOrder, NoneNewerAmong};
+ghost use Rattle.cops_audit.specs.Windows.{AreSuspectsInOrder, NoneNewerAmong};
 
 use crate::analysis::Analysis;
-use crate::cleared::clear;
 use crate::floors::{judge_next, set_floors};
 use crate::names::Names;
 use crate::sweep::Sweep;
@@ -17,25 +16,24 @@ use crate::verdict::Stale;
 use crate::window::{Suspect, set_suspects};
 use std::alloc::{AllocError, Global};
 
-/// The stale gets among the suspects, each with the newest put on its key in its past. The sweep must have nothing
-/// pending.
-pub fn stale_suspects(
+/// The stale gets among the suspects, each with the newest put on its key in its past.
+fn stale_suspects(
     alloc: Global,
-    sweep: &mut Sweep,
     analysis: &Analysis,
     suspects: &[Suspect],
-    floors: &[u32],
 ) -> Result<Vec<Stale>, AllocError>
     requires analysis { IsAnalysis analysis.now }
     requires suspects { AreSuspectsInOrder analysis.now.history.now.sessions analysis.now.table.now suspects.now }
-    requires floors { AreFloors suspects.now floors.now }
-    requires idle { IsIdle (length analysis.now.history.now.sessions) (length analysis.now.table.now) sweep.old }
     ensures { IfOk result (λ v. ListsStale analysis.now.history.now.sessions (map (λ s. s.op) suspects.now) v.items) }
 {
+    let mut floors = Vec::new(alloc);
+    set_floors(&mut floors, suspects)?;
+    let floors = floors.as_slice();
+    let mut sweep = Sweep::new(alloc, analysis.history.clients(), analysis.table.len())?;
     let mut faults = Vec::new(alloc);
     for k in 0..suspects.len() {
         let op = suspects[k].op;
-        let found = judge_next(sweep, analysis, suspects, floors, k)?;
+        let found = judge_next(&mut sweep, analysis, suspects, floors, k)?;
         if let Some(place) = found {
             let put = &analysis.table[place as usize];
             faults.push(Stale {
@@ -44,27 +42,6 @@ pub fn stale_suspects(
             })?;
         }
     }
-    Ok(faults)
-}
-
-/// Like `stale_suspects`, but with a sweep of its own, and after `clear` has removed suspects that have no newer put in
-/// their past.
-fn judge_suspects(
-    alloc: Global,
-    analysis: &Analysis,
-    suspects: Vec<Suspect>,
-) -> Result<Vec<Stale>, AllocError>
-    requires analysis { IsAnalysis analysis.now }
-    requires suspects { (names : List OpName) × AreSuspects analysis.now.history.now.sessions analysis.now.table.now names suspects.items }
-    ensures { IfOk result (λ v. AreStaleSuspects analysis.now.history.now.sessions analysis.now.table.now suspects.items v.items) }
-{
-    let mut left = suspects;
-    clear(&mut left, alloc, analysis)?;
-    let suspects = left.as_slice();
-    let mut floors = Vec::new(alloc);
-    set_floors(&mut floors, suspects)?;
-    let mut sweep = Sweep::new(alloc, analysis.history.clients(), analysis.table.len())?;
-    let faults = stale_suspects(alloc, &mut sweep, analysis, suspects, floors.as_slice())?;
     Ok(faults)
 }
 
@@ -81,10 +58,11 @@ pub fn stale_among(
     // Memory that no suspect needs is not touched, and the vector is not copied as it grows.
     let mut found = Vec::with_capacity(alloc, names.most())?;
     set_suspects(&mut found, analysis, names)?;
-    if found.as_slice().is_empty() {
+    let suspects = found.as_slice();
+    if suspects.is_empty() {
         return Ok(Vec::new(alloc));
     }
-    let faults = judge_suspects(alloc, analysis, found)?;
+    let faults = stale_suspects(alloc, analysis, suspects)?;
     Ok(faults)
 }
 

@@ -1,4 +1,4 @@
-use Rattle.std.proofs.Common.{◌≡◌, ◌<◌, ◌+◌, ◌++◌, ◌∷◌, [], ℕ, List, length, length-append, map, arith, ap, sym, subst}
+use Rattle.std.proofs.Common.{◌≡◌, ◌<◌, ◌+◌, ◌++◌, ◌∷◌, [], List, length, length-append, map, arith, ap, sym, subst}
 use Rattle.std.proofs.lemmas.List.Sums.{sum_by_more}
 use Rattle.cops_types.specs.Histories.{Operation}
 use Rattle.cops_audit.specs.declared.summaries.Summary.{Summary}

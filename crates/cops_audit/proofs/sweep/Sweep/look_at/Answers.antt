@@ -1,7 +1,6 @@
 use Rattle.std.proofs.Common.{◌∙◌, sym, arith, refl, rules, map, length}
 use Rattle.cops_audit.specs.Sweeps.{next_after}
-use Rattle.cops_audit.proofs.Bridging.{analysis_places, analysis_rising}
-use Rattle.cops_audit.proofs.Chaining.{put_inside}
+use Rattle.cops_audit.proofs.Bridging.{analysis_places, analysis_rising, put_inside}
 use Rattle.cops_audit.proofs.Fitting.{covered, no_ok}
 use Rattle.cops_audit.proofs.Sweeping.{above_few, sweep_on, sweep_grows, none_open, low_range}
 use Rattle.cops_audit.proofs.sweep.Sweep.look_at.Goals as goal
