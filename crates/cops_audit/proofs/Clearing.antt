@@ -16,7 +16,7 @@ use Rattle.cops_audit.specs.Windows.{NoneWithin}
 use Rattle.cops_audit.proofs.Summarizing.{summary_there}
 use Rattle.cops_audit.proofs.PastMarks.{mark_is, past_mark}
 use Rattle.cops_audit.proofs.Places.{place_of_put, same_place}
-use Rattle.cops_audit.proofs.Reading.{missed_gets_nothing, missed_puts_nothing, says, seen_get, seen_put}
+use Rattle.cops_audit.proofs.Reading.{missed_gets_nothing, missed_puts_nothing, says, seen_put}
 use Rattle.cops_audit.proofs.Unique.{stands}
 
 -- the place of a put
@@ -52,13 +52,6 @@ module _ (h : Sessions) (table : List VersionedPut) (t : IsVersionTable h table)
   clear summary at none q w f =
       let place = stands_for h table t.table q w (f.key, f.put.0, f.put.1) in
       omega (arith, below_mark summary at q w f place.0 place.1, none place.0 q w place.1 (f.key, f.put, f.returned))
-
-  -- an operation that is no get is not stale
-  pub no_get : (summary : Summary) → summary_at summaries op ≡ Some summary → ((p : ℕ) → ¬ (summary.seen ≡ Got p)) → ((p : ℕ) → ¬ (summary.seen ≡ Sourceless p)) → ¬ (summary.seen ≡ Missed) → (q : OpName) (w : ℕ) → ¬ IsNewer h op q w
-  no_get summary at not_got not_sourceless not_missed q w f = elim f.returned [
-    | inl g ↦ elim (seen_get h table op g.1 summary.seen (says h table t summaries summarized op summary at) (f.key, g.0, g.2)) [ inl r ↦ not_got r.0 r.1 | inr r ↦ not_sourceless r.0 r.1 ]
-    | inr missed ↦ not_missed (seen_missed h table op f.key summary.seen (says h table t summaries summarized op summary at) missed)
-  ]
 
   pub no_summary : summary_at summaries op ≡ None → (q : OpName) (w : ℕ) → ¬ IsNewer h op q w
   no_summary none q w f = elim f.returned [

@@ -53,10 +53,6 @@ module _ {A : Type 0} (name_of : A → OpName) (IsFault : A → Type 0) where
   pub among_faultless : (names : List OpName) → ((x : A) → ¬ IsFault x) → (faults : List A) → faults ≡ [] → ListsAmong name_of IsFault names faults
   among_faultless names none faults empty = search rules
 
-  -- all faults, where there is none
-  pub lists_none : ((x : A) → ¬ IsFault x) → (faults : List A) → faults ≡ [] → Lists name_of IsFault faults
-  lists_none none faults empty = search rules
-
   pub among_all : (names : List OpName) (faults : List A) → ListsAmong name_of IsFault names faults
       → ((x : A) → IsFault x → Contains names (name_of x)) → Lists name_of IsFault faults
   among_all names faults lists named = search rules
@@ -96,9 +92,6 @@ pub record Collected {A : Type 0} (name_of : A → OpName) (IsFault : A → Type
   pub lists : ListsAmong name_of IsFault yielded faults
 
 module _ {A : Type 0} (name_of : A → OpName) (IsFault : A → Type 0) where
-  pub collected_none : {names left : List OpName} {faults : List A} → left ≡ names → faults ≡ [] → Collected name_of IsFault names [] left faults
-  collected_none whole empty = record { split = sym whole; lists = subst (ListsAmong name_of IsFault []) (sym empty) (among_none name_of IsFault) }
-
   -- the next name, of which there is no fault
   pub collect_skip : {names yielded left rest : List OpName} {n : OpName} {faults : List A} → Collected name_of IsFault names yielded left faults → left ≡ n ∷ rest
       → ((x : A) → IsFault x → name_of x ≡ n → ⊥) → Collected name_of IsFault names (yielded ++ n ∷ []) rest faults

@@ -1,5 +1,5 @@
 -- A loop over a list in order that collects the elements with a property.
-use Rattle.std.proofs.Common.{rules, ◌<◌, ◌+◌, ◌↔◌, ℕ, List, [], ◌∷◌, ◌++◌, length, get_or, take, sym, subst, inl, inr, Contains, AllPairs}
+use Rattle.std.proofs.Common.{◌<◌, ◌+◌, ◌↔◌, ℕ, List, [], ◌∷◌, ◌++◌, length, get_or, take, sym, subst, inl, inr, Contains, AllPairs}
 use Rattle.std.proofs.lemmas.List.Quantifiers.{all_pairs_push}
 use Rattle.std.proofs.lemmas.List.Elements.{Contains-append_left, Contains-push, Contains-push_cases, Contains-get_or}
 use Rattle.std.proofs.lemmas.List.{take_more}
@@ -11,9 +11,6 @@ pub record HasThose {A : Type 0} (P : A → Type 0) (Le : A → A → Type 0) (x
   pub in_order : AllPairs Le out
 
 module _ {A : Type 0} (P : A → Type 0) (Le : A → A → Type 0) where
-  pub those_none : HasThose P Le [] []
-  those_none = search rules
-
   module _ (xs : List A) (in_order : AllPairs Le xs) (i : ℕ) (inside : i < length xs) (out : List A) (d : A) (those : HasThose P Le (take i xs) out) where
     pub those_skip : (P (get_or xs i d) → ⊥) → HasThose P Le (take (i + 1) xs) out
     those_skip none = subst (λ ys. HasThose P Le ys out) (sym (take_more xs i d inside))

@@ -1,5 +1,5 @@
 -- Capacity for the ranges that are still to be visited.
-use Rattle.std.proofs.Common.{rules, ◌≡◌, ◌<◌, ◌≤◌, ◌+◌, ℕ, zero, suc, List, [], ◌∷◌, length, get_or, true, false, refl, ap, ◌∙◌, arith, slice_set, slice_index_or, Some, map}
+use Rattle.std.proofs.Common.{rules, ◌≡◌, ◌<◌, ◌≤◌, ◌+◌, ℕ, zero, suc, List, [], ◌∷◌, length, get_or, true, false, refl, arith, slice_set, slice_index_or, Some, map}
 use Rattle.std.specs.Prelude.{sum_by, vec_len, vec_capacity}
 use Rattle.std.proofs.Math.ListN.{length-set}
 use Rattle.std.proofs.lemmas.List.Sums.{sum_by-set, sum_by-cons}
@@ -9,8 +9,6 @@ use Rattle.cops_audit.specs.declared.sweep.Sweep.{Sweep}
 use Rattle.cops_types.specs.declared.versioned_put.VersionedPut.{VersionedPut}
 use Rattle.cops_audit.specs.Summaries.{summary_at}
 use Rattle.cops_audit.specs.Sweeps.{AreRising, Covers, HasRoom}
-use Rattle.cops_audit.specs.KeyIndexes.{HasCapacity}
-use Rattle.cops_audit.specs.declared.key_index.KeyIndex.{KeyIndex}
 use Rattle.cops_audit.proofs.Marks.{slice_get_inside}
 
 -- a list that is lower at each place has the lower sum
@@ -31,25 +29,6 @@ module _ (space : ℕ) (lengths : List ℕ) (old : Sweep) (client to : ℕ) (ins
   -- there is capacity for one more range
   pub room_left : vec_len old.pending < vec_capacity old.pending
   room_left = omega (arith, room.left, sum_rises, sum_less (slice_set old.counts client to) lengths (omega (arith, length-set old.counts client to, room.width)) still_within)
-
-  -- and there is still capacity afterwards
-  pub room_kept : (new : Sweep) → new.counts ≡ slice_set old.counts client to → length new.newest ≡ length old.newest
-      → vec_len new.pending ≡ vec_len old.pending + 1 → vec_capacity old.pending ≤ vec_capacity new.pending → HasRoom space lengths new
-  room_kept new counts newest len capacity =
-      let sum : sum_by (λ n. n) new.counts ≡ sum_by (λ n. n) (slice_set old.counts client to) = ap (sum_by (λ n. n)) counts in
-      record {
-        width = ap length counts ∙ length-set old.counts client to ∙ room.width;
-        within = λ c. let e : get_or new.counts c 0 ≡ get_or (slice_set old.counts client to) c 0 = ap (λ (l : List ℕ). get_or l c 0) counts in omega (arith, e, still_within c);
-        few = room.few;
-        whole = omega (arith, room.whole, capacity);
-        places = omega (arith, room.places, newest);
-        left = omega (arith, room.left, sum, sum_rises, len, capacity);
-      }
-
--- the same counts, and the same ranges to visit
-pub room_same : (space : ℕ) (lengths : List ℕ) (old new : Sweep) → new.counts ≡ old.counts → length new.newest ≡ length old.newest → new.pending ≡ old.pending
-    → HasRoom space lengths old → HasRoom space lengths new
-room_same space lengths old new counts newest pending room = search rules
 
 -- a range is taken from those that are to be visited
 pub room_popped : (space : ℕ) (lengths : List ℕ) (old new : Sweep) → new.counts ≡ old.counts → length new.newest ≡ length old.newest
@@ -72,7 +51,3 @@ covered table summaries rising place put version stands = let there = rising.put
 -- an error is not `Ok`
 pub no_ok : {A : Type 0} → false ≡ true → A
 no_ok e = absurd cc
-
--- what has capacity for more has it for fewer
-pub has_capacity : {few many : ℕ} {index : KeyIndex} → few ≤ many → HasCapacity many index → HasCapacity few index
-has_capacity le has = record { nexts = omega (arith, le, has.nexts); by_key = omega (arith, le, has.by_key); firsts = omega (arith, le, has.firsts) }

@@ -1,11 +1,10 @@
 -- Causal summaries, session by session in one list.
-use Rattle.std.proofs.Common.{◌≡◌, ◌<◌, ◌+◌, ◌-◌, ℕ, suc, List, [], ◌∷◌, ◌++◌, length, map, All, length-append, length-drop, take_all, refl, ◌∙◌, ap, arith, slice_index_or, drop, take}
-use Rattle.std.proofs.lemmas.List.{drop-append-le, drop_at, length-map, map_push, take-append-le}
+use Rattle.std.proofs.Common.{◌≡◌, ◌-◌, ℕ, suc, List, [], ◌∷◌, ◌++◌, length, map, All, length-append, length-drop, take_all, refl, ◌∙◌, ap, arith, drop, take}
+use Rattle.std.proofs.lemmas.List.{drop-append-le, drop_at, map_push, take-append-le}
 use Rattle.std.proofs.lemmas.List.Elements.{All-push}
 use Rattle.cops_audit.specs.declared.flat.Span.{Span}
 use Rattle.cops_audit.specs.declared.summaries.Summary.{Summary}
 use Rattle.cops_audit.specs.Summaries.{IsWithin, span_of}
-use Rattle.cops_audit.proofs.Summarizing.{get_high, get_low}
 
 module _ (summaries session : List Summary) where
   -- a span of the summaries stays as it is where more follow
@@ -39,11 +38,3 @@ module _ (summaries session : List Summary) where
         All-push (IsWithin (summaries ++ session)) spans (record { from = from; to = to })
         (λ k d inside. let w = within k d inside in (w.0, omega (arith, w.1, length-append summaries session)))
         (omega (arith, starts, ends, length-append summaries session), omega (arith, ends))
-
--- the sessions of some clients, and those of the others after them
-module _ (summaries : List Summary) (spans : List Span) (high : List (List Summary)) where
-  pub low_session : (client : ℕ) → client < length spans → slice_index_or (map (span_of summaries) spans ++ high) client [] ≡ slice_index_or (map (span_of summaries) spans) client []
-  low_session client inside = get_low (map (span_of summaries) spans) high client [] (omega (arith, inside, length-map spans (span_of summaries)))
-
-  pub high_session : (client k : ℕ) → client ≡ length spans + k → slice_index_or (map (span_of summaries) spans ++ high) client [] ≡ slice_index_or high k []
-  high_session client k e = get_high (map (span_of summaries) spans) high k client [] (omega (arith, e, length-map spans (span_of summaries)))

@@ -1,5 +1,5 @@
 -- A loop over names that collects the suspects.
-use Rattle.std.proofs.Common.{rules, ◌≡◌, ◌≤◌, ℕ, List, [], ◌∷◌, ◌++◌, length, get_or, sym, ◌∙◌, ap, subst, inl, inr, arith, Contains, AllPairs, append-nil, length-append}
+use Rattle.std.proofs.Common.{◌≡◌, ◌≤◌, ℕ, List, [], ◌∷◌, ◌++◌, length, get_or, sym, ◌∙◌, ap, subst, inl, inr, arith, Contains, AllPairs, length-append}
 use Rattle.std.proofs.lemmas.List.Quantifiers.{all_pairs_push}
 use Rattle.std.proofs.lemmas.List.Elements.{Contains-append_left, Contains-push, Contains-push_cases, Contains-get_or}
 use Rattle.cops_types.specs.declared.op.OpName.{OpName}
@@ -43,9 +43,6 @@ pub record Gathered (h : Sessions) (table : List VersionedPut) (names yielded le
   pub few : length suspects ≤ length yielded
 
 module _ {h : Sessions} {table : List VersionedPut} where
-  pub none_gathered : {names left : List OpName} {suspects : List Suspect} → left ≡ names → suspects ≡ [] → Gathered h table names [] left suspects
-  none_gathered whole empty = search rules
-
   pub gather_skip : {names yielded left rest : List OpName} {n : OpName} {suspects : List Suspect} → Gathered h table names yielded left suspects → left ≡ n ∷ rest
       → ((newer : OpName) (version : ℕ) → ¬ IsNewer h n newer version) → Gathered h table names (yielded ++ n ∷ []) rest suspects
   gather_skip {names} {yielded} {left} {rest} {n} {suspects} so_far first none = record {
@@ -62,6 +59,3 @@ module _ {h : Sessions} {table : List VersionedPut} where
         (push_one h table yielded n suspects y so_far.are same fault (before_next names yielded rest n in_order (so_far.split ∙ ap (λ ns. yielded ++ ns) first)));
     few = omega (arith, length-append yielded (n ∷ []), length-append suspects (y ∷ []), ap length is, so_far.few);
   }
-
-  pub all_gathered : {names yielded left : List OpName} {suspects : List Suspect} → Gathered h table names yielded left suspects → left ≡ [] → AreSuspects h table names suspects
-  all_gathered {names} {yielded} {left} {suspects} so_far last = subst (λ ns. AreSuspects h table ns suspects) (sym (so_far.split ∙ ap (λ ns. yielded ++ ns) last ∙ append-nil yielded)) so_far.are

@@ -1,11 +1,10 @@
 -- Room for a history that grows.
-use Rattle.std.proofs.Common.{rules, ◌≡◌, ◌<◌, ◌≤◌, ◌+◌, ℕ, suc, List, [], ◌∷◌, ◌++◌, length, length-append, get_or, replicate, map, Vec, Global, refl, sym, ◌∙◌, ap, inl, inr, arith, false, slice_index_or}
+use Rattle.std.proofs.Common.{◌≡◌, ◌<◌, ◌+◌, ℕ, suc, List, [], ◌∷◌, ◌++◌, length, length-append, get_or, replicate, map, Vec, Global, refl, sym, ◌∙◌, ap, inl, inr, arith, false, slice_index_or}
 use Rattle.std.specs.Prelude.{Result, Ok, Err, OnOk, sum_by, vec_capacity}
 use Rattle.std.specs.Result.{is_err}
 use Rattle.std.proofs.Math.ListN.{length-set}
 use Rattle.std.proofs.lemmas.Bool.{cases_lt}
 use Rattle.std.proofs.lemmas.List.{length-map, length-replicate}
-use Rattle.std.proofs.lemmas.List.Folds.{sum_by-replicate}
 use Rattle.std.proofs.lemmas.List.Sums.{sum_by-cons, sum_by-set}
 use Rattle.cops_types.specs.Histories.{Sessions, with_op, Operation}
 use Rattle.cops_types.specs.Counts.{count_of}
@@ -14,15 +13,11 @@ use Rattle.cops_audit.specs.declared.room.Scratch.{Scratch}
 use Rattle.cops_audit.specs.declared.sweep.OpRange.{OpRange}
 use Rattle.cops_audit.specs.declared.sweep.Sweep.{Sweep}
 use Rattle.cops_types.specs.declared.versioned_put.VersionedPut.{VersionedPut}
-use Rattle.cops_audit.specs.Summaries.{Flat, IsSummarized}
-use Rattle.cops_audit.specs.Rooms.{Fits, HasSpace, IsReady, IsSameButSpace}
-use Rattle.cops_audit.specs.Sweeps.{HasRoom, IsFresh, IsIdle}
+use Rattle.cops_audit.specs.Summaries.{IsSummarized}
+use Rattle.cops_audit.specs.Rooms.{IsReady}
+use Rattle.cops_audit.specs.Sweeps.{HasRoom, IsFresh}
 use Rattle.cops_audit.proofs.Bridging.{past_end}
 use Rattle.cops_audit.proofs.Flooring.{zero_at}
-
--- sessions without operations have no operations together
-pub count_empty : (n : ℕ) → count_of (replicate n []) ≡ 0
-count_empty n = omega (arith, sum_by-replicate (length {A = Operation}) n [])
 
 -- a client gets its next operation
 module _ (h : Sessions) (client : ℕ) (op : Operation) (inside : client < length h) where
@@ -34,23 +29,6 @@ module _ (h : Sessions) (client : ℕ) (op : Operation) (inside : client < lengt
 
   clients_same : length (with_op h client op) ≡ length h
   clients_same = length-set h client (own ++ op ∷ [])
-
-  pub fits_more : (room : Scratch) (flat : Flat) → Fits h room flat → count_of h + 1 ≤ room.space → Fits (with_op h client op) room flat
-  fits_more room flat fits enough = record {
-    ready = record {
-      space = fits.ready.space;
-      enough = omega (arith, enough, count_more);
-      counts = fits.ready.counts ∙ sym clients_same;
-      empty = fits.ready.empty;
-    };
-    sessions = omega (arith, fits.sessions, clients_same);
-    summaries = fits.summaries;
-  }
-
--- the same room with no less capacity
-pub fits_on : (h : Sessions) (old new : Scratch) (summaries more : Flat) → Fits h old summaries → HasSpace new.space new → old.space ≤ new.space → IsSameButSpace old new
-    → new.space ≤ more.summary_room → more.session_room ≡ summaries.session_room → Fits h new more
-fits_on h old new summaries more fits space higher but room sessions = search rules
 
 -- what holds where it succeeds, where it is no error
 pub succeeded : {T E : Type 0} (r : Result T E) (P : Type 0) → OnOk r P → false ≡ is_err r → P
@@ -93,12 +71,3 @@ module _ (h : Sessions) (room : Scratch) (ready : IsReady h room) (sweep : Sweep
         places = omega (arith, newest, length-replicate {A = ℕ} (length room.sweep.newest) 0, ready.space.newest);
         left = omega (arith, sum, capacity, ready.enough, ready.space.pending, none, sweep.pending.ok.0);
       }
-
-  pub fresh_idle : (puts : ℕ) → puts ≤ count_of h → IsIdle (length h) puts sweep
-  fresh_idle puts few = record {
-    empty = fresh.pending;
-    clients = ap length fresh.counts ∙ length-replicate {A = ℕ} (length room.sweep.counts) 0 ∙ ready.counts;
-    places =
-        let newest : length sweep.newest ≡ length (replicate {A = ℕ} (length room.sweep.newest) 0) = ap length fresh.newest in
-        omega (arith, few, ready.enough, newest, length-replicate {A = ℕ} (length room.sweep.newest) 0, ready.space.newest);
-  }

@@ -17,9 +17,6 @@ one_put_at table i p q v w a b = search rules
 put_place : (seen : OpPlace) (p q : ℕ) → seen ≡ Put p → seen ≡ Put q → p ≡ q
 put_place seen p q a b = let e : Put p ≡ Put q = sym a ∙ b in cc
 
-got_place : (seen : OpPlace) (p q : ℕ) → seen ≡ Got p → seen ≡ Got q → p ≡ q
-got_place seen p q a b = let e : Got p ≡ Got q = sym a ∙ b in cc
-
 put_no_got : (seen : OpPlace) (p q : ℕ) → seen ≡ Put p → seen ≡ Got q → ⊥
 put_no_got seen p q a b = let e : Put p ≡ Got q = sym a ∙ b in cc
 

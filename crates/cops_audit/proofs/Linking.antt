@@ -1,7 +1,6 @@
 -- The puts on each key, from the last place down.
 use Rattle.std.proofs.Common.{rules, ◌≡◌, ◌≢◌, ◌<◌, ◌+◌, ℕ, zero, suc, List, [], ◌∷◌, length, Some, None, Option, get_or, refl, sym, ◌∙◌, ap, subst, inl, inr, ◌⊎◌, arith, slice_get, slice_set}
 use Rattle.std.proofs.Math.Nat.{eq-or-lt_of_le}
-use Rattle.cops_types.specs.declared.op.OpName.{OpName}
 use Rattle.cops_types.specs.Histories.{Sessions, PutsKey}
 use Rattle.cops_types.specs.declared.versioned_put.VersionedPut.{VersionedPut}
 use Rattle.cops_types.specs.Recorded.{Recorded}
@@ -12,10 +11,6 @@ use Rattle.cops_audit.proofs.Places.{inside_table, stands_item}
 use Rattle.cops_audit.proofs.Acyclic.{one_version}
 use Rattle.cops_audit.proofs.Collect.{get_or-default}
 use Rattle.cops_audit.proofs.Unique.{stands}
-
--- a put has one key
-pub one_key : (h : Sessions) (p q : OpName) (a b : List ℕ) (v w : ℕ) → PutsKey h p a v → PutsKey h q b w → p ≡ q → a ≡ b
-one_key h p q a b v w first second e = search rules
 
 module _ (h : Sessions) (table : List VersionedPut) (rising : Rises table) where
   pub same_key : (t : ℕ) (a b : List ℕ) → OnKey h table t a → OnKey h table t b → a ≡ b
@@ -70,10 +65,6 @@ keyed_at r table numbers t are place inside =
     let own = (t.table.members put).0 (place, inside, sym is) in
     let here : OnKey r.sessions table place own.0 = on_key r.sessions table t place put own.0 put.version inside is (own.1, own.2) in
     (own.0, here, are.each place (get_or numbers place 0) own.0 (stands numbers place 0 (omega (arith, inside, are.whole))) here)
-
--- no put is past the end
-pub none_past_end : (h : Sessions) (table : List VersionedPut) (key : List ℕ) → IsFirstFrom h table (length table) key None
-none_past_end h table key t le on = let l : t < length table = inside_table table t on.0 on.1 on.2 in omega (arith, l, le)
 
 -- an element is written at a place
 pub written : {A : Type 0} (xs : List A) (k i : ℕ) (x y : A) → slice_get (slice_set xs k x) i ≡ Some y → ((i ≡ k) × (x ≡ y)) ⊎ ((i ≢ k) × (slice_get xs i ≡ Some y))

@@ -3,9 +3,6 @@ use Rattle.std.proofs.Common.{◌≡◌, ◌<◌, ℕ, zero, suc, List, [], ◌�
 use Rattle.cops_types.specs.declared.op.OpName.{OpName}
 use Rattle.cops_types.specs.Histories.{Sessions, IsNamed, Operation}
 
-at_place : ℕ → ℕ → OpName
-at_place client index = record { client = client; index = index }
-
 slice_get_below : {A : Type 0} (s : List A) (i : ℕ) (x : A) → slice_get s i ≡ Some x → i < length s
 slice_get_below [] i x e = absurd cc
 slice_get_below (y ∷ ys) zero x e = omega arith

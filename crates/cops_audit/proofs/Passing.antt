@@ -1,5 +1,5 @@
 -- The first place on each key, handed on from each put to the next one on its key.
-use Rattle.std.proofs.Common.{rules, ◌≡◌, ◌≢◌, ◌<◌, ◌≤◌, ◌+◌, ◌⊎◌, ℕ, zero, suc, List, length, Some, sym, ◌∙◌, ap, subst, inl, inr, arith, slice_get, slice_set}
+use Rattle.std.proofs.Common.{◌≡◌, ◌≢◌, ◌<◌, ◌≤◌, ◌+◌, ◌⊎◌, ℕ, zero, suc, List, length, Some, sym, ◌∙◌, ap, subst, inl, inr, arith, slice_get, slice_set}
 use Rattle.std.proofs.Math.ListN.{length-set}
 use Rattle.std.proofs.Math.Nat.{eq-or-lt_of_le}
 use Rattle.std.proofs.lemmas.Bool.{cases_lt}
@@ -23,10 +23,6 @@ pub record PassedTo (h : Sessions) (table : List VersionedPut) (nexts : List ℕ
   pub whole : length firsts ≡ length table
   pub before : (q first : ℕ) (key : List ℕ) → q < i → slice_get firsts q ≡ Some first → OnKey h table q key → IsFirstOn h table key first
   pub after : (q : ℕ) → i ≤ q → q < length table → Passed h table nexts firsts i q
-
-pub none_passed : (h : Sessions) (table : List VersionedPut) (nexts : List ℕ) (firsts : List ℕ) → length firsts ≡ length table → ((q : ℕ) → q < length table → slice_get firsts q ≡ Some q)
-    → PassedTo h table nexts firsts 0
-none_passed h table nexts firsts whole own = search rules
 
 module _ (h : Sessions) (table : List VersionedPut) (t : IsVersionTable h table) (nexts : List ℕ) (are : AreNexts h table nexts) where
   -- the key of a put

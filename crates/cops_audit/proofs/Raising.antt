@@ -1,5 +1,5 @@
 -- Counts that are raised.
-use Rattle.std.proofs.Common.{rules, ◌≡◌, ◌≢◌, ◌<◌, ◌≤◌, ◌+◌, ◌-◌, ◌⊎◌, ℕ, List, [], ◌∷◌, ◌++◌, length, get_or, sym, ◌∙◌, ap, subst, inl, inr, arith, slice_set, get_or-set_same, get_or-set_other}
+use Rattle.std.proofs.Common.{rules, ◌≡◌, ◌≢◌, ◌<◌, ◌≤◌, ◌+◌, ◌-◌, ◌⊎◌, ℕ, List, [], ◌∷◌, ◌++◌, length, get_or, sym, ◌∙◌, ap, subst, inl, inr, arith, slice_set, get_or-set_same}
 use Rattle.std.specs.Prelude.{sum_by}
 use Rattle.std.proofs.lemmas.Bool.Decides.{eqb_tells}
 use Rattle.std.proofs.lemmas.List.Elements.{Contains-append_left, Contains-push, Contains-push_cases}
@@ -14,9 +14,6 @@ either i j = elim (eqb_tells i j) [ inl p ↦ inl p.1 | inr p ↦ inr p.1 ]
 module _ (xs : List ℕ) (c to : ℕ) (inside : c < length xs) where
   at_same : (n : OpName) → n.client ≡ c → get_or (slice_set xs c to) n.client 0 ≡ to
   at_same n same = ap (λ (k : ℕ). get_or (slice_set xs c to) k 0) same ∙ get_or-set_same xs c to 0 inside
-
-  at_other : (n : OpName) → n.client ≢ c → get_or (slice_set xs c to) n.client 0 ≡ get_or xs n.client 0
-  at_other n other = get_or-set_other xs c n.client to 0 other
 
   pub counted_then : (n : OpName) → Counted (slice_set xs c to) n → Counted xs n ⊎ ((n.client ≡ c) × (n.index < to))
   counted_then n there = search rules

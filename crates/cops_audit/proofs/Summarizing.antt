@@ -11,7 +11,7 @@ use Rattle.cops_audit.specs.Tables.{IsVersionTable}
 use Rattle.cops_audit.specs.Summaries.{above, AreSummarized, IsMark, IsSummarized, IsSeen, IsSessionSummarized, summary_at}
 use Rattle.cops_audit.proofs.Listing.{named_client, named_index, slice_get_there}
 use Rattle.cops_audit.proofs.Places.{inside_table}
-use Rattle.cops_audit.proofs.Marks.{mark_kept, mark_none, mark_rises, mark_stays, slice_get_push, slice_get_inside}
+use Rattle.cops_audit.proofs.Marks.{mark_kept, mark_rises, mark_stays, slice_get_push, slice_get_inside}
 
 -- places are below the greatest number of puts
 pub few_places : (h : Sessions) (table : List VersionedPut) → IsVersionTable h table → (name : OpName) (seen : OpPlace) → IsSeen h table name seen → above seen ≤ length table
@@ -43,9 +43,6 @@ one_summary_more h table client session count mark summary n seen new = record {
         (subst (λ (j : ℕ). IsMark (session ++ summary ∷ []) (j + 1) summary.mark) (sym (last.0 ∙ n.whole)) new)
   ];
 }
-
-pub no_summaries : (h : Sessions) (table : List VersionedPut) (client : ℕ) → Summarized h table client [] 0 0
-no_summaries h table client = record { whole = refl; up_to = mark_none; seen = λ i x at. absurd cc; marks = λ i x at. absurd cc }
 
 module _ (h : Sessions) (table : List VersionedPut) (client : ℕ) (session : List Summary) (count mark : ℕ) (seen : OpPlace) (n : Summarized h table client session count mark) (is : IsSeen h table (record { client = client; index = count }) seen) where
   -- a place above the mark raises it, and any other leaves it
@@ -117,10 +114,6 @@ summarized_joined h table first mid end low high a b = record {
         let client : mid + j ≡ first + k = omega (arith, le, a.clients) in
         subst (IsSessionSummarized h table (first + k)) (sym (get_high low high j k [] (omega (arith, le))))
         (subst (λ (n : ℕ). IsSessionSummarized h table n (get_or high j [])) client (b.sessions j (omega (arith, less, le, length-append low high))))
-
--- the summaries of no client, and of one
-pub summarized_none : (h : Sessions) (table : List VersionedPut) (first : ℕ) → AreSummarized h table first first []
-summarized_none h table first = record { clients = omega arith; sessions = λ k less. absurd (omega (arith, less)) }
 
 pub summarized_one : (h : Sessions) (table : List VersionedPut) (client : ℕ) (session : List Summary) → IsSessionSummarized h table client session → AreSummarized h table client (client + 1) (session ∷ [])
 summarized_one h table client session summarized = record { clients = omega arith; sessions = at }

@@ -69,9 +69,6 @@ module _ (h : Sessions) (table : List VersionedPut) (t : IsVersionTable h table)
     pub waiting_clear : (mark : ℕ) → IsFirstFrom h table 0 got.0.key None → NoneWithin h table op mark
     waiting_clear mark none p put version at would = absurd (none p (omega arith) (would_wait p put version at would).0)
 
-    pub waiting_far : (mark : ℕ) → mark ≤ place → NoneWithin h table op mark
-    waiting_far mark far p put version at would = omega (arith, far, (would_wait p put version at would).1)
-
     pub waiting_is : (first : ℕ) → IsFirstFrom h table 0 got.0.key (Some first) → IsSuspect h table (record { op = op; first = first; from = place })
     waiting_is first is = record {
       named = (_, got.0.got);

@@ -1,5 +1,5 @@
 -- A past that is built by walking causal summaries backward.
-use Rattle.std.proofs.Common.{rules, ◌≡◌, ◌<◌, ◌≤◌, ◌+◌, ◌⊎◌, ℕ, List, [], ◌∷◌, ◌++◌, length, get_or, Some, None, refl, sym, ◌∙◌, ap, subst, inl, inr, arith, Vec, Global}
+use Rattle.std.proofs.Common.{rules, ◌≡◌, ◌<◌, ◌≤◌, ◌+◌, ◌⊎◌, ℕ, List, [], ◌∷◌, ◌++◌, length, get_or, Some, refl, sym, ◌∙◌, ap, subst, inl, inr, arith, Vec, Global}
 use Rattle.std.proofs.Math.Nat.{eq-or-lt_of_le}
 use Rattle.cops_types.specs.declared.op.OpName.{OpName}
 use Rattle.cops_types.specs.declared.versioned_put.VersionedPut.{VersionedPut}
@@ -36,10 +36,6 @@ above_few table summaries rising n (Put place) mark at = let s = rising.seen_put
 above_few table summaries rising n (Got place) mark at = let s = rising.seen_gets n place mark at in let l : place < length table = inside_table table place s.0 s.1 s.2 in omega (arith, l)
 above_few table summaries rising n Missed mark at = omega arith
 above_few table summaries rising n (Sourceless place) mark at = rising.seen_sourceless n place mark at
-
--- an operation has one summary
-one_summary : (summaries : List (List Summary)) (n : OpName) (x y : Summary) → summary_at summaries n ≡ Some x → summary_at summaries n ≡ Some y → x ≡ y
-one_summary summaries n x y a b = let e : Some x ≡ Some y = sym a ∙ b in cc
 
 module _ (table : List VersionedPut) (summaries : List (List Summary)) (rising : AreRising table summaries) (firsts : List ℕ) (floor : ℕ) where
   learned_still : (old new : Sweep) (seen other : OpPlace) → Learns table firsts old new seen → IsLearned table firsts old other → IsLearned table firsts new other
@@ -100,12 +96,6 @@ module _ (table : List VersionedPut) (summaries : List (List Summary)) (rising :
             | inl same ↦ step (subst (λ x. SummaryStep table summaries x name) (sym (same_name n put client same)) source)
             | inr less ↦ let there = rising.puts place put version stands in more (step (inl (client, less, _, there.1))) source
           ]
-
-  -- an operation without a summary is skipped
-  pub sweep_past : (s : Sweep) (name : OpName) (from : ℕ) → summary_at summaries name ≡ None
-      → IsSweeping table summaries firsts floor s (InRange (record { client = name.client; from = from; to = name.index + 1 }))
-      → IsSweeping table summaries firsts floor s (InRange (record { client = name.client; from = from; to = name.index }))
-  sweep_past s name from none was = search rules
 
   -- nothing is left to visit in a range whose marks are not above the floor
   pub none_open : (s : Sweep) (IsOpen : OpName → Type 0) → ((n : OpName) (x : Summary) → IsOpen n → summary_at summaries n ≡ Some x → ¬ (floor < x.mark))
