@@ -1,22 +1,20 @@
 -- Gets that are not suspects: no put in their past is newer.
-use Rattle.std.proofs.Common.{◌≡◌, ◌<◌, ◌≤◌, ◌+◌, ℕ, List, Some, None, Option, refl, sym, ◌∙◌, ap, inl, inr, arith}
+use Rattle.std.proofs.Common.{◌≡◌, ◌<◌, ◌≤◌, ◌+◌, ℕ, List, Some, None, Option, sym, ◌∙◌, ap, inl, inr, arith}
 use Rattle.std.specs.Option.{IfNone}
 use Rattle.cops_types.specs.declared.op.OpName.{OpName}
-use Rattle.cops_types.specs.Histories.{Sessions, IsMissed, PutsVersion}
+use Rattle.cops_types.specs.Histories.{Sessions, PutsVersion}
 use Rattle.cops_types.specs.Faults.{IsNewer}
 use Rattle.cops_types.specs.Verdicts.{AllAbove}
 use Rattle.cops_audit.specs.SoFar.{HaveSourcesOrWait}
 use Rattle.cops_types.specs.declared.versioned_put.VersionedPut.{VersionedPut}
 use Rattle.cops_audit.specs.declared.summaries.Summary.{Summary}
-use Rattle.cops_audit.specs.declared.summaries.OpPlace.{OpPlace}
-use Rattle.cops_audit.specs.declared.summaries.OpPlace.TheVariants.{Put, Got, Missed, Sourceless}
 use Rattle.cops_audit.specs.Tables.{IsPutTable, IsVersionTable}
-use Rattle.cops_audit.specs.Summaries.{above, IsSummarized, IsSeen, StandsAt, summary_at}
+use Rattle.cops_audit.specs.Summaries.{above, IsSummarized, StandsAt, summary_at}
 use Rattle.cops_audit.specs.Windows.{NoneWithin}
 use Rattle.cops_audit.proofs.Summarizing.{summary_there}
 use Rattle.cops_audit.proofs.PastMarks.{mark_is, past_mark}
 use Rattle.cops_audit.proofs.Places.{place_of_put, same_place}
-use Rattle.cops_audit.proofs.Reading.{missed_gets_nothing, missed_puts_nothing, says, seen_put}
+use Rattle.cops_audit.proofs.Reading.{says, seen_put}
 use Rattle.cops_audit.proofs.Unique.{stands}
 
 -- the place of a put
@@ -29,12 +27,6 @@ stands_for h table t p v put =
 pub none_then : {A P Q : Type 0} (o : Option A) → IfNone o P → (P → Q) → IfNone o Q
 none_then None p f = f p
 none_then (Some x) p f = tt
-
-seen_missed : (h : Sessions) (table : List VersionedPut) (n : OpName) (k : List ℕ) (seen : OpPlace) → IsSeen h table n seen → IsMissed h n k → seen ≡ Missed
-seen_missed h table n k (Put p) s missed = absurd (missed_puts_nothing h n k s.0 missed s.1)
-seen_missed h table n k (Got p) s missed = absurd (missed_gets_nothing h n k s.1 missed s.3)
-seen_missed h table n k Missed s missed = refl
-seen_missed h table n k (Sourceless p) s missed = absurd (missed_gets_nothing h n k s.0.version missed (s.0.key, s.0.content, s.0.got))
 
 module _ (h : Sessions) (table : List VersionedPut) (t : IsVersionTable h table) (summaries : List (List Summary)) (summarized : IsSummarized h table summaries) (sources : HaveSourcesOrWait h) (above_all : AllAbove h) (op : OpName) where
   -- a put in the past of an operation is below its mark

@@ -1,12 +1,11 @@
 -- Room for a history that grows.
-use Rattle.std.proofs.Common.{◌≡◌, ◌<◌, ◌+◌, ℕ, suc, List, [], ◌∷◌, ◌++◌, length, length-append, get_or, replicate, map, Vec, Global, refl, sym, ◌∙◌, ap, inl, inr, arith, false, slice_index_or}
+use Rattle.std.proofs.Common.{◌≡◌, ◌<◌, ℕ, suc, List, [], ◌∷◌, length, get_or, replicate, map, Vec, Global, refl, sym, ◌∙◌, ap, inl, inr, arith, false, slice_index_or}
 use Rattle.std.specs.Prelude.{Result, Ok, Err, OnOk, sum_by, vec_capacity}
 use Rattle.std.specs.Result.{is_err}
-use Rattle.std.proofs.Math.ListN.{length-set}
 use Rattle.std.proofs.lemmas.Bool.{cases_lt}
 use Rattle.std.proofs.lemmas.List.{length-map, length-replicate}
-use Rattle.std.proofs.lemmas.List.Sums.{sum_by-cons, sum_by-set}
-use Rattle.cops_types.specs.Histories.{Sessions, with_op, Operation}
+use Rattle.std.proofs.lemmas.List.Sums.{sum_by-cons}
+use Rattle.cops_types.specs.Histories.{Sessions, Operation}
 use Rattle.cops_types.specs.Counts.{count_of}
 use Rattle.cops_audit.specs.declared.summaries.Summary.{Summary}
 use Rattle.cops_audit.specs.declared.room.Scratch.{Scratch}
@@ -23,12 +22,6 @@ use Rattle.cops_audit.proofs.Flooring.{zero_at}
 module _ (h : Sessions) (client : ℕ) (op : Operation) (inside : client < length h) where
   abbrev own : List Operation
   own = slice_index_or h client []
-
-  count_more : count_of (with_op h client op) ≡ count_of h + 1
-  count_more = omega (arith, sum_by-set length h client (own ++ op ∷ []) [] inside, length-append own (op ∷ []))
-
-  clients_same : length (with_op h client op) ≡ length h
-  clients_same = length-set h client (own ++ op ∷ [])
 
 -- what holds where it succeeds, where it is no error
 pub succeeded : {T E : Type 0} (r : Result T E) (P : Type 0) → OnOk r P → false ≡ is_err r → P

@@ -24,9 +24,6 @@ slice_get_inside [] i x e = absurd cc
 slice_get_inside (y ∷ ys) zero x e = omega arith
 slice_get_inside (y ∷ ys) (suc i) x e = omega (arith, slice_get_inside ys i x e)
 
-pub mark_none : IsMark [] 0 0
-mark_none = record { bounds = λ i summary less at. absurd (omega (arith, less)); reached = inl refl }
-
 -- one more operation leaves the marks before it as they are
 pub mark_kept : (session : List Summary) (summary : Summary) (count mark : ℕ) → count ≤ length session → IsMark session count mark → IsMark (session ++ summary ∷ []) count mark
 mark_kept session summary count mark short m = record {

@@ -1,5 +1,5 @@
 -- What causal summaries say of a history.
-use Rattle.std.proofs.Common.{◌≡◌, ◌<◌, ◌≤◌, ◌↔◌, ◌⊎◌, ℕ, List, Some, refl, sym, ◌∙◌, ap, subst, inl, inr, arith}
+use Rattle.std.proofs.Common.{◌≡◌, ◌<◌, ◌≤◌, ◌↔◌, ℕ, List, Some, refl, sym, ◌∙◌, ap, subst, inl, inr, arith}
 use Rattle.cops_types.specs.declared.op.OpName.{OpName}
 use Rattle.cops_types.specs.Histories.{Sessions, IsMissed, PutsVersion, SourceStep, write, read, missed}
 use Rattle.cops_types.specs.Operations.{GetsVersion}
@@ -36,13 +36,6 @@ module _ (h : Sessions) (table : List VersionedPut) where
   seen_got n v (Got p) some s got = (p, s.0, refl, subst (StandsAt table p s.0) (one_get_version h n s.1 v s.3 got) s.2, s.4)
   seen_got n v Missed some s got = absurd (missed_gets_nothing h n s.0 v s.1 got)
   seen_got n v (Sourceless p) some s got = absurd (some s.0)
-
-  -- the summary of a get has its source's place or none
-  pub seen_get : (n : OpName) (v : ℕ) (seen : OpPlace) → IsSeen h table n seen → GetsVersion h n v → ((p : ℕ) × (seen ≡ Got p)) ⊎ ((p : ℕ) × (seen ≡ Sourceless p))
-  seen_get n v (Put p) s got = absurd (put_is_no_get h n n s.0 v s.1 got refl)
-  seen_get n v (Got p) s got = inl (p, refl)
-  seen_get n v Missed s got = absurd (missed_gets_nothing h n s.0 v s.1 got)
-  seen_get n v (Sourceless p) s got = inr (p, refl)
 
   -- the summary of a get without a source has none
   pub seen_sourceless : (n : OpName) (seen : OpPlace) → IsSeen h table n seen → HasNoSource h n → (p : ℕ) × (seen ≡ Sourceless p)
