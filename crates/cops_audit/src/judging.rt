@@ -46,15 +46,15 @@ fn classify_gets(alloc: Global, puts: Puts) -> Result<Verdict, Memory>
         return Ok(verdict);
     }
     let tables = Tables::new(alloc, puts)?;
-    classify_stale(alloc, &tables)
+    classify_stale(alloc, tables)
 }
 
 /// The stale gets, or the puts in order of versions, for a history in which the classes before the stale gets are
 /// empty.
-fn classify_stale(alloc: Global, tables: &Tables) -> Result<Verdict, Memory>
-    requires sources { AllHaveSources tables.now.sessions }
-    requires above { AllAbove tables.now.sessions }
-    ensures { IfOk result (IsVerdict tables.now.sessions) }
+fn classify_stale(alloc: Global, tables: Tables) -> Result<Verdict, Memory>
+    requires sources { AllHaveSources tables.sessions }
+    requires above { AllAbove tables.sessions }
+    ensures { IfOk result (IsVerdict tables.entry.sessions) }
 {
     let count = tables.count();
     let stale = tables.stale(alloc, 0, count)?;

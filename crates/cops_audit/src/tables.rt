@@ -124,17 +124,25 @@ impl<'a> Tables<'a> {
 
     /// The verdict where the classes before the stale gets are empty: the stale gets among all names, or the puts in
     /// order of versions. The only error is `Memory`, where memory runs out.
-    pub fn verdict(&self, alloc: Global, stale: Vec<Stale>) -> Result<Verdict, Memory>
-        requires sources { AllHaveSources self.now.sessions }
-        requires above { AllAbove self.now.sessions }
-        requires stale { ListsStale self.now.sessions self.now.names stale.items }
-        ensures { IfOk result (IsVerdict self.now.sessions) }
+    pub fn verdict(self, alloc: Global, stale: Vec<Stale>) -> Result<Verdict, Memory>
+        requires sources { AllHaveSources self.sessions }
+        requires above { AllAbove self.sessions }
+        requires stale { ListsStale self.sessions self.names stale.items }
+        ensures { IfOk result (IsVerdict self.entry.sessions) }
     {
-        let table = self.table.as_slice();
+        // What only the search needs is freed before the puts are listed.
+        let Tables {
+            table,
+            summaries,
+            keys,
+            ..
+        } = self;
+        drop(summaries);
+        drop(keys);
         if !stale.is_empty() {
             return Ok(Verdict::Refused(Faults::Stale(stale)));
         }
-        let puts = put_names(alloc, table)?;
+        let puts = put_names(alloc, table.as_slice())?;
         Ok(Verdict::Accepted(puts))
     }
 }

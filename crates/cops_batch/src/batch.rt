@@ -2,6 +2,7 @@ ghost use Rattle.std.specs.Prelude.{◌≡◌, ◌<◌, ◌⊎◌, ◌↔◌, �
 ghost use Rattle.cops_types.specs.declared.op.OpName.{OpName};
 ghost use Rattle.cops_types.specs.Convergence.{IsCausallyConvergent};
 ghost use Rattle.cops_types.specs.declared.limits.TheConstants.{MAX_WORKERS};
+ghost use Rattle.cops_audit.specs.Names.{ListsStale};
 ghost use Rattle.cops_audit.specs.Tables.{Repeats, Rises};
 ghost use Rattle.cops_audit.specs.Verdicts.{Accepts, ConvergesByVersions, IsVerdict};
 ghost use Rattle.cops_batch.specs.Found.{HasDoubled, HasNoEarlierFaults, HasStale, IsSearched};
@@ -12,7 +13,7 @@ ghost use Rattle.cops_batch.specs.declared.fault.BatchFault.TheVariants.{BadWork
 use crate::fault::BatchFault;
 use crate::joining::{finished, joined_before_stale, joined_names, joined_stale};
 use crate::pieces::{Piece, cut, leave, look_before_stale, look_for_doubled, look_for_stale};
-use cops_audit::{Puts, Tables, Verdict, verdict_on_convergence};
+use cops_audit::{Puts, Stale, Tables, Verdict, verdict_on_convergence};
 use cops_types::{Gate, History, MAX_WORKERS};
 use std::alloc::Global;
 use std::sync::Wait;
@@ -188,21 +189,22 @@ fn judge_stale<R: Threads + Wait + Sync, G: Gate>(
         last_round(rt, gate, pieces)?;
         return Err(BatchFault::Memory);
     };
-    judge_tables(rt, alloc, &tables, gate, pieces)
+    let stale = stale_in_pieces(rt, alloc, &tables, gate, pieces)?;
+    tables.verdict(alloc, stale).or(Err(BatchFault::Memory))
 }
 
-/// The verdict where the classes before the stale gets are empty, by tables that are built.
-fn judge_tables<R: Threads + Wait + Sync, G: Gate>(
+/// The stale gets in all pieces, each looked for by a worker.
+fn stale_in_pieces<R: Threads + Wait + Sync, G: Gate>(
     rt: &R,
     alloc: Global,
     tables: &Tables,
     gate: &G,
     pieces: &mut [Piece],
-) -> Result<Verdict, BatchFault>
+) -> Result<Vec<Stale>, BatchFault>
     requires clean { HasNoEarlierFaults tables.now.sessions }
     requires pieces { ArePieces tables.now.names pieces.old }
     requires held { Each (IsStoppedByGate (G.may_hold gate.now)) pieces.old }
-    ensures ok { IfOk result (IsVerdict tables.now.sessions) }
+    ensures ok { IfOk result (λ v. ListsStale tables.now.sessions tables.now.names v.items) }
     ensures err { IfErr result (MayFail (G.may_hold gate.now) (length pieces.old)) }
 {
     let threads = pieces.len();
@@ -220,8 +222,5 @@ fn judge_tables<R: Threads + Wait + Sync, G: Gate>(
         { look_for_stale(rt, alloc, tables, gate, piece) },
     );
     finished(gate, pieces)?;
-    let Ok(stale) = joined_stale(alloc, pieces) else {
-        return Err(BatchFault::Memory);
-    };
-    tables.verdict(alloc, stale).or(Err(BatchFault::Memory))
+    joined_stale(alloc, pieces).or(Err(BatchFault::Memory))
 }

@@ -7,5 +7,5 @@ use Rattle.cops_audit.proofs.judging.classify_stale.Goals as goal
 
 pub verdict-requires-clause-stale : goal.verdict-requires-clause-stale
 verdict-requires-clause-stale c =
-    let t = c.args.tables.now in
+    let t = c.args.tables in
     subst (λ ns. ListsAmong {A = Stale} (λ f. f.op) (λ f. IsStale t.sessions f.op f.newer) ns c.in_ok-stale.stale.items) (take_all (0 + c.count-count.result - 0) t.names (omega (arith, c.count-count.ensures.count))) c.in_ok-stale.ensures

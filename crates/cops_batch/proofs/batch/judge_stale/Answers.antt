@@ -4,8 +4,8 @@ use Rattle.cops_batch.specs.Found.{HasNoEarlierFaults}
 use Rattle.cops_batch.specs.Pieces.{ArePieces}
 use Rattle.cops_batch.proofs.batch.judge_stale.Goals as goal
 
-pub judge_tables-requires-clause-clean : goal.judge_tables-requires-clause-clean
-judge_tables-requires-clause-clean g c κs within = subst HasNoEarlierFaults (sym c.in-Ok.ensures.sessions) c.requires.clean
+pub stale_in_pieces-requires-clause-clean : goal.stale_in_pieces-requires-clause-clean
+stale_in_pieces-requires-clause-clean g c κs within = subst HasNoEarlierFaults (sym c.in-Ok.ensures.sessions) c.requires.clean
 
-pub judge_tables-requires-clause-pieces : goal.judge_tables-requires-clause-pieces
-judge_tables-requires-clause-pieces g c κs within = subst (λ (names : List OpName). ArePieces names c.args.pieces.now) (sym c.in-Ok.ensures.names) c.requires.pieces
+pub stale_in_pieces-requires-clause-pieces : goal.stale_in_pieces-requires-clause-pieces
+stale_in_pieces-requires-clause-pieces g c κs within = subst (λ (names : List OpName). ArePieces names c.args.pieces.now) (sym c.in-Ok.ensures.names) c.requires.pieces

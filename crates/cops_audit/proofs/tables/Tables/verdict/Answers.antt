@@ -10,7 +10,7 @@ use Rattle.cops_audit.proofs.tables.Tables.verdict.Goals as goal
 
 pub returns-then-not-is_empty : goal.returns-then-not-is_empty
 returns-then-not-is_empty c =
-    let t = c.args.self.now in
+    let t = c.args.self in
     let table = c.self.inside.table.items in
     let are : AreTables table t = subst (AreTables table) c.self.view_is c.self.invariant.0 in (
       none_doubled t.sessions table are.puts,
@@ -22,7 +22,7 @@ returns-then-not-is_empty c =
 
 pub returns : goal.returns
 returns c =
-    let t = c.args.self.now in
+    let t = c.args.self in
     let table = c.self.inside.table.items in
     let are : AreTables table t = subst (AreTables table) c.self.view_is c.self.invariant.0 in
     let lists = stale_listed t.sessions t.names are.names c.args.stale.items c.requires.stale in
@@ -31,5 +31,5 @@ returns c =
       sources = c.requires.sources;
       above = c.requires.above;
       stale = λ n q fault. none_there {A = Stale} (λ f. f.op) (λ f. IsStale t.sessions f.op f.newer) c.args.stale.items c.is_empty.result _ lists c.if-not-is_empty.false c.is_empty.ensures c.args.stale.ok.0 (record { op = n; newer = q }) fault;
-      version_order = subst (IsVersionOrder t.sessions) (sym (c.in_ok-puts.ensures ∙ ap (map (λ (p : VersionedPut). p.name)) c.as_slice-table.ensures.value)) (order_of_table t.sessions table are.puts);
+      version_order = subst (IsVersionOrder t.sessions) (sym (c.in_ok-puts.ensures ∙ ap (map (λ (p : VersionedPut). p.name)) c.as_slice.ensures.value)) (order_of_table t.sessions table are.puts);
     }

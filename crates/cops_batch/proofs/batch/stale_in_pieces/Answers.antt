@@ -4,7 +4,7 @@ use Rattle.cops_audit.specs.declared.verdict.Stale.{Stale}
 use Rattle.cops_batch.specs.declared.pieces.Piece.{Piece}
 use Rattle.cops_batch.proofs.Cuts.{pieces_same}
 use Rattle.cops_batch.proofs.Joins.{joined_all}
-use Rattle.cops_batch.proofs.batch.judge_tables.Goals as goal
+use Rattle.cops_batch.proofs.batch.stale_in_pieces.Goals as goal
 
 pub finished-requires-clause-pieces : goal.finished-requires-clause-pieces
 finished-requires-clause-pieces g c κs within = (_, pieces_same (search rules) c.requires.pieces)
