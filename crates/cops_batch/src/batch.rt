@@ -222,5 +222,8 @@ fn stale_in_pieces<R: Threads + Wait + Sync, G: Gate>(
         { look_for_stale(rt, alloc, tables, gate, piece) },
     );
     finished(gate, pieces)?;
-    joined_stale(alloc, pieces).or(Err(BatchFault::Memory))
+    let Ok(stale) = joined_stale(alloc, pieces) else {
+        return Err(BatchFault::Memory);
+    };
+    Ok(stale)
 }

@@ -9,3 +9,9 @@ stale_in_pieces-requires-clause-clean g c κs within = subst HasNoEarlierFaults 
 
 pub stale_in_pieces-requires-clause-pieces : goal.stale_in_pieces-requires-clause-pieces
 stale_in_pieces-requires-clause-pieces g c κs within = subst (λ (names : List OpName). ArePieces names c.args.pieces.now) (sym c.in-Ok.ensures.names) c.requires.pieces
+
+pub verdict-requires-clause-sources : goal.verdict-requires-clause-sources
+verdict-requires-clause-sources g c = (subst HasNoEarlierFaults (sym c.in-Ok.ensures.sessions) c.requires.clean).0
+
+pub verdict-requires-clause-above : goal.verdict-requires-clause-above
+verdict-requires-clause-above g c = (subst HasNoEarlierFaults (sym c.in-Ok.ensures.sessions) c.requires.clean).1
