@@ -6,7 +6,7 @@ use Rattle.cops_audit.specs.Verdicts.{IsVerdict}
 use Rattle.cops_audit.specs.declared.fault.Fault.{Fault}
 use Rattle.cops_audit.specs.declared.verdict.Verdict.{Verdict}
 use Rattle.cops_audit.specs.declared.verdict.Verdict.TheVariants.{Accepted, Refused}
-use Rattle.cops_audit.proofs.FaultLemmas.{number_fault}
+use Rattle.cops_explain.proofs.FaultLemmas.{number_fault}
 use Rattle.cops_explain.specs.Pictures.{fault_at}
 
 pub fault_is : (h : Sessions) (v : Verdict) → IsVerdict h v → (number : ℕ) (f : Fault) → fault_at v number ≡ Some f → IsFault h f

@@ -5,3 +5,4 @@ pub mod TextLemmas
 pub mod Unique
 pub mod FaultsAt
 pub mod ContentLemmas
+pub mod FaultLemmas

@@ -2,7 +2,7 @@ use Rattle.std.proofs.Common.{◌∙◌, sym}
 use Rattle.std.specs.Prelude.{string_bytes}
 use Rattle.cops_audit.specs.Faults.{faults_of}
 use Rattle.cops_explain.specs.Refused.{history_of}
-use Rattle.cops_audit.proofs.FaultLemmas.{verdict_fault}
+use Rattle.cops_explain.proofs.FaultLemmas.{verdict_fault}
 use Rattle.cops_explain.proofs.ParagraphLemmas.{none_added, paragraph_more, paragraphs_past}
 use Rattle.cops_explain.proofs.explaining.push_paragraphs.Goals as goal
 use Rattle.cops_explain.proofs.explaining.push_paragraphs.Goals.{in-Some+in_ok-push_paragraph, in_default}

@@ -2,7 +2,7 @@ use Rattle.std.proofs.Common.{◌∙◌, [], ◌∷◌, map, sym}
 use Rattle.std.proofs.lemmas.List.{map-append}
 use Rattle.serde_json.specs.View.{view}
 use Rattle.cops_audit.specs.Faults.{faults_of}
-use Rattle.cops_audit.proofs.FaultLemmas.{verdict_fault}
+use Rattle.cops_explain.proofs.FaultLemmas.{verdict_fault}
 use Rattle.cops_explain.specs.Refused.{history_of}
 use Rattle.cops_explain_json.proofs.FaultLists.{fault_more, faults_past}
 use Rattle.cops_explain_json.proofs.faults.faults_json.Goals as goal

@@ -1,5 +1,5 @@
 use Rattle.std.proofs.Common.{◌∙◌, sym}
-use Rattle.cops_audit.proofs.FaultLemmas.{number_fault}
+use Rattle.cops_explain.proofs.FaultLemmas.{number_fault}
 use Rattle.cops_explain.specs.Refused.{history_of}
 use Rattle.cops_explain_json.proofs.faults.one_fault.Goals as goal
 
