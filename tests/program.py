@@ -88,6 +88,8 @@ def examples():
         lines = example(f"{name}.ops").decode().split("\n")
         check(f"{name}.trace is what the writer makes of {name}.ops", trace(lines), data)
         audited(name, data, text, status)
+        by_script = subprocess.run([os.path.join(ROOT, "cops"), "audit", "-"], input=data, capture_output=True)
+        check(f"{name} by ./cops", (by_script.returncode, by_script.stdout, by_script.stderr), (status, text.encode(), b""))
         check(f"{name}, a byte at a time", by_stalling_pipe(["audit", "-"], [bytes([byte]) for byte in data]), (status, text.encode(), b""))
 
 

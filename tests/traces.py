@@ -43,9 +43,8 @@ def cops(*words, stdin=b"", stdout=subprocess.PIPE, limit=None):
     def limited():
         resource.setrlimit(resource.RLIMIT_AS, (limit, limit))
 
-    command = BUILT if limit else os.path.join(ROOT, "cops")
     before = limited if limit else None
-    ran = subprocess.run([command, *words], input=stdin, stdout=stdout, stderr=subprocess.PIPE, preexec_fn=before)
+    ran = subprocess.run([BUILT, *words], input=stdin, stdout=stdout, stderr=subprocess.PIPE, preexec_fn=before)
     answer = ran.returncode, ran.stdout, ran.stderr
     if limit or stdout != subprocess.PIPE or not stdin or words[:1] not in ((), ("audit",), ("show",)):
         return answer

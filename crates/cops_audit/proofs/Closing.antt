@@ -58,8 +58,10 @@ module _ (table : List VersionedPut) (summaries : List (List Summary)) (rising :
         omega (arith, there, e.1, same)
     closed_step a b x (inr e) there at high =
         let le = summary_step_mark a b x (record { seen = Got e.0; mark = e.2 }) (inr e) at e.4 in
+        let put = rising.puts e.0 a e.1 e.3 in
+        let own : x.mark ≡ put.0 = same_mark a x (Put e.0) put.0 at put.1 in
         elim (sweeping.learned b (record { seen = Got e.0; mark = e.2 }) there e.4 (omega (arith, le, high))) [
-          | inl learned ↦ learned.got e.0 a e.1 refl e.3
+          | inl learned ↦ learned.got e.0 a e.1 refl (omega (arith, own, put.2, high)) e.3
           | inr left ↦ elim left [ inl pending ↦ absurd (none_in_nothing s.pending.items b empty pending) | inr none ↦ absurd none ]
         ]
 
@@ -133,7 +135,7 @@ module _ (table : List VersionedPut) (summaries : List (List Summary)) (firsts :
       | inl before ↦ elim (was.learned n x before at high) [
         | inl learned ↦ inl (record {
           put = λ place first is has. subst (λ (l : List ℕ). place < get_or l first 0) (sym raises.newest) (learned.put place first is has);
-          got = λ place put version is stands. raises.kept put (learned.got place put version is stands);
+          got = λ place put version is high stands. raises.kept put (learned.got place put version is high stands);
         })
         | inr left ↦ elim left [ inl pending ↦ inr (inl (raises.still n pending)) | inr none ↦ absurd none ]
       ]

@@ -20,9 +20,9 @@ put_place seen p q a b = let e : Put p ≡ Put q = sym a ∙ b in cc
 put_no_got : (seen : OpPlace) (p q : ℕ) → seen ≡ Put p → seen ≡ Got q → ⊥
 put_no_got seen p q a b = let e : Put p ≡ Got q = sym a ∙ b in cc
 
-pub learns_put : (table : List VersionedPut) (firsts : List ℕ) (old new : Sweep) (seen : OpPlace) (place : ℕ) → seen ≡ Put place → new.counts ≡ old.counts → new.pending ≡ old.pending
-    → TakesPut firsts old.newest new.newest place → Learns table firsts old new seen
-learns_put table firsts old new seen place is counts pending takes = record {
+pub learns_put : (table : List VersionedPut) (firsts : List ℕ) (floor : ℕ) (old new : Sweep) (seen : OpPlace) (place : ℕ) → seen ≡ Put place → new.counts ≡ old.counts → new.pending ≡ old.pending
+    → TakesPut firsts old.newest new.newest place → Learns table firsts floor old new seen
+learns_put table firsts floor old new seen place is counts pending takes = record {
   counts = λ n there. inl (subst (λ cs. Counted cs n) counts there);
   kept = λ n there. subst (λ cs. Counted cs n) (sym counts) there;
   pending = λ n there. inl (subst (λ cs. Counted cs n) counts there);
@@ -40,7 +40,7 @@ learns_put table firsts old new seen place is counts pending takes = record {
         let same : place ≡ other = put_place seen place other is is' in
         let l : place < get_or new.newest first 0 = takes.known first (subst (λ (k : ℕ). slice_get firsts k ≡ Some first) (sym same) at) in
         omega (arith, l, same);
-    got = λ other put version is' at. absurd (put_no_got seen place other is is');
+    got = λ other put version is' high at. absurd (put_no_got seen place other is is');
   };
   work =
       let a : sum_by (λ k. 2 ^ 32 - k) new.counts ≡ sum_by (λ k. 2 ^ 32 - k) old.counts = ap (sum_by (λ k. 2 ^ 32 - k)) counts in
@@ -48,6 +48,6 @@ learns_put table firsts old new seen place is counts pending takes = record {
       omega (arith, a, b);
 }
 
-pub learns_got : (table : List VersionedPut) (firsts : List ℕ) (old new : Sweep) (seen : OpPlace) (place : ℕ) (put : OpName) (version : ℕ) → seen ≡ Got place → StandsAt table place put version
-    → Raises old new put.client (put.index + 1) → Learns table firsts old new seen
-learns_got table firsts old new seen place put version is stands raises = search rules
+pub learns_got : (table : List VersionedPut) (firsts : List ℕ) (floor : ℕ) (old new : Sweep) (seen : OpPlace) (place : ℕ) (put : OpName) (version : ℕ) → seen ≡ Got place → StandsAt table place put version
+    → Raises old new put.client (put.index + 1) → Learns table firsts floor old new seen
+learns_got table firsts floor old new seen place put version is stands raises = search rules

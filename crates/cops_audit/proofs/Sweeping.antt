@@ -38,7 +38,7 @@ above_few table summaries rising n Missed mark at = omega arith
 above_few table summaries rising n (Sourceless place) mark at = rising.seen_sourceless n place mark at
 
 module _ (table : List VersionedPut) (summaries : List (List Summary)) (rising : AreRising table summaries) (firsts : List ℕ) (floor : ℕ) where
-  learned_still : (old new : Sweep) (seen other : OpPlace) → Learns table firsts old new seen → IsLearned table firsts old other → IsLearned table firsts new other
+  learned_still : (old new : Sweep) (seen other : OpPlace) → Learns table firsts floor old new seen → IsLearned table firsts floor old other → IsLearned table firsts floor new other
   learned_still old new seen other learns was = search rules
 
   -- the summary of an operation, by what it saw
@@ -46,7 +46,7 @@ module _ (table : List VersionedPut) (summaries : List (List Summary)) (rising :
   as_seen n summary seen at is = at ∙ ap (λ (s : OpPlace). Some (let x : Summary = record { seen = s; mark = summary.mark } in x)) is
 
   -- one operation of a range is recorded
-  pub sweep_on : (old new : Sweep) (name : OpName) (from : ℕ) (summary : Summary) → from ≤ name.index → summary_at summaries name ≡ Some summary → Learns table firsts old new summary.seen
+  pub sweep_on : (old new : Sweep) (name : OpName) (from : ℕ) (summary : Summary) → from ≤ name.index → summary_at summaries name ≡ Some summary → Learns table firsts floor old new summary.seen
       → IsSweeping table summaries firsts floor old (InRange (record { client = name.client; from = from; to = name.index + 1 }))
       → IsSweeping table summaries firsts floor new (InRange (record { client = name.client; from = from; to = name.index }))
   sweep_on old new name from summary low at learns was = record {
@@ -76,11 +76,11 @@ module _ (table : List VersionedPut) (summaries : List (List Summary)) (rising :
       own = was.open_counted name (refl, low, omega arith)
 
       in_range : (n : OpName) (x : Summary) → summary_at summaries n ≡ Some x → InRange (record { client = name.client; from = from; to = name.index + 1 }) n
-          → IsLearned table firsts new x.seen ⊎ (InSome new.pending.items n ⊎ InRange (record { client = name.client; from = from; to = name.index }) n)
+          → IsLearned table firsts floor new x.seen ⊎ (InSome new.pending.items n ⊎ InRange (record { client = name.client; from = from; to = name.index }) n)
       in_range n x at_n range = search rules
 
   -- what is newly counted is in the past of the operation that was recorded
-  pub sweep_grows : (old new : Sweep) (name : OpName) (summary : Summary) → summary_at summaries name ≡ Some summary → Counted old.counts name → Learns table firsts old new summary.seen → Grows table summaries old new
+  pub sweep_grows : (old new : Sweep) (name : OpName) (summary : Summary) → summary_at summaries name ≡ Some summary → Counted old.counts name → Learns table firsts floor old new summary.seen → Grows table summaries old new
   sweep_grows old new name summary at own learns = record {
     kept = learns.kept;
     past = λ n there. elim (learns.counts n there) [
@@ -121,7 +121,7 @@ module _ (table : List VersionedPut) (summaries : List (List Summary)) (rising :
     learned = λ n x counted at high. elim (was.learned n x (subst (λ cs. Counted cs n) counts counted) at high) [
       | inl learned ↦ inl (record {
         put = λ place first is there. subst (λ (l : List ℕ). place < get_or l first 0) (sym newest) (learned.put place first is there);
-        got = λ place put version is there. now put (learned.got place put version is there);
+        got = λ place put version is high there. now put (learned.got place put version is high there);
       })
       | inr left ↦ elim left [
         | inl there ↦ inr (in_some_cases new.pending.items range n (subst (λ rs. InSome rs n) pending there))

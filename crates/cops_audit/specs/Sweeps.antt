@@ -49,10 +49,10 @@ with_next range = record { client = range.client; from = range.from; to = range.
 abbrev pub InSome : List OpRange → OpName → Type 0
 InSome ranges name = (range : OpRange) × Contains ranges range × InRange range name
 
--- what an operation saw is recorded: of a put its place, of a get its source
-pub record IsLearned (table : List VersionedPut) (firsts : List ℕ) (sweep : Sweep) (seen : OpPlace) : Type 0 where
+-- what an operation saw is recorded: of a put its place, of a get its source, unless that is below the floor
+pub record IsLearned (table : List VersionedPut) (firsts : List ℕ) (floor : ℕ) (sweep : Sweep) (seen : OpPlace) : Type 0 where
   pub put : (place first : ℕ) → seen ≡ Put place → slice_get firsts place ≡ Some first → place < slice_index sweep.newest first
-  pub got : (place : ℕ) (put : OpName) (version : ℕ) → seen ≡ Got place → StandsAt table place put version → Counted sweep.counts put
+  pub got : (place : ℕ) (put : OpName) (version : ℕ) → seen ≡ Got place → floor ≤ place → StandsAt table place put version → Counted sweep.counts put
 
 -- what is counted and has a mark above the floor is recorded, except for the operations that are still to be visited
 pub record IsSweeping (table : List VersionedPut) (summaries : List (List Summary)) (firsts : List ℕ) (floor : ℕ) (sweep : Sweep) (IsOpen : OpName → Type 0) : Type 0 where
@@ -62,7 +62,7 @@ pub record IsSweeping (table : List VersionedPut) (summaries : List (List Summar
   pub open_counted : (name : OpName) → IsOpen name → Counted sweep.counts name
   pub pending_counted : (name : OpName) → InSome sweep.pending.items name → Counted sweep.counts name
   pub learned : (name : OpName) (summary : Summary) → Counted sweep.counts name → summary_at summaries name ≡ Some summary → floor < summary.mark
-      → IsLearned table firsts sweep summary.seen ⊎ (InSome sweep.pending.items name ⊎ IsOpen name)
+      → IsLearned table firsts floor sweep summary.seen ⊎ (InSome sweep.pending.items name ⊎ IsOpen name)
 
 -- more is counted, and what is new is in the past of what was counted
 pub record Grows (table : List VersionedPut) (summaries : List (List Summary)) (old new : Sweep) : Type 0 where
@@ -97,8 +97,8 @@ pub record TakesPut (firsts old new : List ℕ) (place : ℕ) : Type 0 where
   pub known : (first : ℕ) → slice_get firsts place ≡ Some first → place < slice_index new first
   pub only : (first other : ℕ) → slice_index new first ≡ other + 1 → (slice_index old first ≡ other + 1) ⊎ ((place ≡ other) × (slice_get firsts place ≡ Some first))
 
--- what an operation saw is recorded
-pub record Learns (table : List VersionedPut) (firsts : List ℕ) (old new : Sweep) (seen : OpPlace) : Type 0 where
+-- what an operation saw is recorded, unless it is below the floor
+pub record Learns (table : List VersionedPut) (firsts : List ℕ) (floor : ℕ) (old new : Sweep) (seen : OpPlace) : Type 0 where
   pub counts : (name : OpName) → Counted new.counts name → Counted old.counts name
       ⊎ ((place : ℕ) × (put : OpName) × (version : ℕ) × (seen ≡ Got place) × StandsAt table place put version × (name.client ≡ put.client) × (name.index ≤ put.index))
   pub kept : (name : OpName) → Counted old.counts name → Counted new.counts name
@@ -109,7 +109,7 @@ pub record Learns (table : List VersionedPut) (firsts : List ℕ) (old new : Swe
   pub places : length new.newest ≡ length old.newest
   pub higher : (first : ℕ) → slice_index old.newest first ≤ slice_index new.newest first
   pub newest : (first place : ℕ) → slice_index new.newest first ≡ place + 1 → (slice_index old.newest first ≡ place + 1) ⊎ ((seen ≡ Put place) × (slice_get firsts place ≡ Some first))
-  pub learned : IsLearned table firsts new seen
+  pub learned : IsLearned table firsts floor new seen
   pub work : work_left new ≤ work_left old
 
 -- all that is counted is in the past of the operation

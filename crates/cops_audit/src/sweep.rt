@@ -86,11 +86,13 @@ impl Sweep {
         }
     }
 
-    /// Records what an operation saw: of a put its place, of a get its source.
+    /// Records what an operation saw: of a put its place, of a get its source, unless that is below the floor. Then no
+    /// put in the source's past is at the floor or above.
     fn learn(
         &mut self,
         table: &[VersionedPut],
         firsts: &[u32],
+        floor: u32,
         seen: OpPlace,
     ) -> Result<(), AllocError>
         requires few { length table.now ≤ MAX_OPS }
@@ -98,7 +100,7 @@ impl Sweep {
         requires places { length table.now ≤ length self.old.newest }
         requires puts { (place : ℕ) (put : OpName) (version : ℕ) → StandsAt table.now place put version → (put.client < length self.old.counts) × (put.index < MAX_CLIENT_OPS) }
         requires seen { above seen ≤ length table.now }
-        ensures learns { OnOk result (Learns table.now firsts.now self.old self.new seen) }
+        ensures learns { OnOk result (Learns table.now firsts.now floor self.old self.new seen) }
         ensures room { (space : ℕ) (lengths : List ℕ) → Covers lengths table.now → HasRoom space lengths self.old
             → IsOk result × HasRoom space lengths self.new }
     {
@@ -107,7 +109,7 @@ impl Sweep {
                 self.take_put(firsts, place);
                 Ok(())
             }
-            OpPlace::Got(place) => {
+            OpPlace::Got(place) if place >= floor => {
                 let put = &table[place as usize];
                 self.raise(put.name.client, put.name.index + 1)?;
                 Ok(())
@@ -143,7 +145,7 @@ impl Sweep {
         if summary.mark <= floor {
             return Ok(false);
         }
-        self.learn(analysis.table, analysis.firsts, summary.seen)?;
+        self.learn(analysis.table, analysis.firsts, floor, summary.seen)?;
         Ok(true)
     }
 

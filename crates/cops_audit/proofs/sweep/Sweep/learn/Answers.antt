@@ -13,12 +13,12 @@ here : (table : List VersionedPut) (seen : OpPlace) (place : ℕ) (put : Version
 here table seen place put is few at = stands_item table place put (let e : above seen ≡ place + 1 = ap above is in omega (arith, e, few)) at
 
 pub returns-in-Put-clause-learns : goal.returns-in-Put-clause-learns
-returns-in-Put-clause-learns c = learns_put c.args.table.now c.args.firsts.now c.args.self.now c.take_put.new.self c.args.seen c.in-Put.place c.in-Put.is c.take_put.ensures.counts c.take_put.ensures.pending c.take_put.ensures.newest
+returns-in-Put-clause-learns c = learns_put c.args.table.now c.args.firsts.now c.args.floor c.args.self.now c.take_put.new.self c.args.seen c.in-Put.place c.in-Put.is c.take_put.ensures.counts c.take_put.ensures.pending c.take_put.ensures.newest
 
 pub returns-in_ok-raise-in-Got-clause-learns : goal.returns-in_ok-raise-in-Got-clause-learns
 returns-in_ok-raise-in-Got-clause-learns c =
     let put = c.index-table-place.result in
-    learns_got c.args.table.now c.args.firsts.now c.args.self.now c.raise.new.self c.args.seen c.in-Got.place put.name put.version c.in-Got.is
+    learns_got c.args.table.now c.args.firsts.now c.args.floor c.args.self.now c.raise.new.self c.args.seen c.in-Got.place put.name put.version c.in-Got.is
     (here c.args.table.now c.args.seen c.in-Got.place put c.in-Got.is c.requires.seen c.index-table-place.is) c.in_ok-raise-in-Got.ensures.raises
 
 pub returns-in_ok-raise-in-Got-clause-room : goal.returns-in_ok-raise-in-Got-clause-room
