@@ -1,4 +1,7 @@
 """Tests of examples/arbitrate/arbitrate.py, which finds one order of the versions of a store that orders them only key by key, or has none."""
+import contextlib
+import importlib.util
+import io
 import itertools
 import json
 import os
@@ -7,7 +10,6 @@ import subprocess
 import sys
 import tempfile
 from collections import Counter
-from concurrent.futures import ThreadPoolExecutor
 
 import plain
 import plain_cluster
@@ -33,18 +35,37 @@ def line(client, kind, key, value=None, version=None):
     return {"client": client, kind: key, **({} if kind == "del" else {"value": value}), **({} if version is None else {"version": version})}
 
 
+def loaded():
+    """The script as a module."""
+    spec = importlib.util.spec_from_file_location("arbitrate_script", ARBITRATE)
+    module = importlib.util.module_from_spec(spec)
+    spec.loader.exec_module(module)
+    return module
+
+
+SCRIPT = loaded()
+
+
+def by_script(words):
+    """The status and the output of the script, run in this process, since most runs take less time than to start Python."""
+    printed = io.StringIO()
+    with contextlib.redirect_stdout(printed), contextlib.redirect_stderr(printed):
+        status = SCRIPT.main(words)
+    return status, printed.getvalue()
+
+
 def judged(lines, *words):
     """The first line of what the script or, if it finds an order, the check prints."""
     with tempfile.TemporaryDirectory() as folder:
         given, ordered = os.path.join(folder, "lines"), os.path.join(folder, "ordered")
         with open(given, "w", encoding="utf-8") as file:
             file.writelines(json.dumps(it) + "\n" for it in lines)
-        found = subprocess.run([sys.executable, ARBITRATE, *words, given, ordered], stdout=subprocess.PIPE, stderr=subprocess.STDOUT, text=True)
-        if found.returncode == 0:
-            found = cops("check", ordered)
-            return found[0], found[1].decode().split("\n", 1)[0]
+        status, printed = by_script([*words, given, ordered])
+        if status == 0:
+            status, printed, _ = cops("check", ordered)
+            return status, printed.decode().split("\n", 1)[0]
         check("no order, no file", os.path.exists(ordered), False)
-        return found.returncode, found.stdout.split("\n", 1)[0]
+        return status, printed.split("\n", 1)[0]
 
 
 def published():
@@ -103,10 +124,9 @@ def of_the_cluster():
     """What the clients of the reference cluster saw is accepted again without the order between keys, and without versions."""
     met = Counter()
     traces = list(cluster_traces())
-    with ThreadPoolExecutor(os.cpu_count() or 2) as pool:
-        pairs = [hidden(operations) for operations in traces]
-        by_key = list(pool.map(judged, (lines for lines, _ in pairs)))
-        by_value = list(pool.map(lambda lines: lines and judged(lines, "--values"), (lines for _, lines in pairs)))
+    pairs = [hidden(operations) for operations in traces]
+    by_key = [judged(lines) for lines, _ in pairs]
+    by_value = [lines and judged(lines, "--values") for _, lines in pairs]
     for seed, (operations, keyed, valued) in enumerate(zip(traces, by_key, by_value)):
         puts = sum(kind in ("put", "del") for _, kind, _, _, _ in operations)
         wanted = 0, f"accepted: {len(operations)} operations, {puts} puts"
@@ -143,10 +163,9 @@ def small_history(seed):
 def small_ones():
     """On small histories it finds an order exactly where one of all orders has the history converge."""
     met, made = Counter(), [small_history(seed) for seed in range(SMALL)]
-    with ThreadPoolExecutor(os.cpu_count() or 2) as pool:
-        pairs = [hidden(list(words_of(lines))) for lines, _ in made]
-        by_key = list(pool.map(judged, (lines for lines, _ in pairs)))
-        by_value = list(pool.map(lambda lines: judged(lines, "--values"), (lines for _, lines in pairs)))
+    pairs = [hidden(list(words_of(lines))) for lines, _ in made]
+    by_key = [judged(lines) for lines, _ in pairs]
+    by_value = [judged(lines, "--values") for _, lines in pairs]
     for seed, ((_, history), *found) in enumerate(zip(made, by_key, by_value)):
         for (status, text), is_fixed in zip(found, (True, False)):
             check(f"a small history, {seed}, {'versions of keys' if is_fixed else 'no versions'}: {text}", status == 0, has_order(history, is_fixed))
