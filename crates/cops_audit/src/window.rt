@@ -35,9 +35,7 @@ fn got_suspect(analysis: &Analysis, op: OpName, place: u32, mark: u32) -> Option
     if from >= mark || from as usize >= analysis.table.len() {
         return None;
     }
-    let Some(first) = first_on(analysis.history, analysis.by_key, op) else {
-        return None;
-    };
+    let first = analysis.firsts[place as usize];
     Some(Suspect { op, first, from })
 }
 

@@ -1,8 +1,6 @@
-use Rattle.std.proofs.Common.{◌≤◌, None, get_or, length, refl, ap, arith, inl, inr}
+use Rattle.std.proofs.Common.{◌≤◌, get_or, length, refl, arith, inl, inr}
 use Rattle.std.proofs.lemmas.Bool.{cases_lt}
-use Rattle.std.specs.Option.{option_map}
-use Rattle.cops_types.specs.Operations.{key_of}
-use Rattle.cops_audit.specs.Keys.{IsFirstFrom}
+use Rattle.std.proofs.lemmas.Option.{slice_get-get_or}
 use Rattle.cops_audit.proofs.Linking.{next_at}
 use Rattle.cops_audit.proofs.Places.{inside_table}
 use Rattle.cops_audit.proofs.Suspecting.{got_clear, got_far, got_is, on_source}
@@ -27,22 +25,18 @@ returns-then-from-mark-clause-none c =
       | then-from-mark-via-else-from-mark+then-from-analysis w ↦ clear (omega (arith, w.if-from-analysis.true))
     ]
 
-pub returns-in_default-clause-none : goal.returns-in_default-clause-none
-returns-in_default-clause-none c =
-    let h = c.args.analysis.now.history.now.sessions in
-    let table = c.args.analysis.now.table.now in
-    let source = c.requires.got.4 in
-    let none : IsFirstFrom h table 0 source.key None = c.in_default.ensures table source.key c.requires.analysis.by_key (ap (option_map key_of) source.got) in
-    absurd (none c.args.place (omega arith) (on_source h table c.requires.analysis.table c.args.op c.args.place c.requires.got))
-
 pub returns-clause-suspect : goal.returns-clause-suspect
 returns-clause-suspect c =
     let h = c.args.analysis.now.history.now.sessions in
     let table = c.args.analysis.now.table.now in
-    let source = c.requires.got.4 in
-    let inside = inside_table table c.args.place c.requires.got.0 c.requires.got.1 c.requires.got.2 in (
+    let inside = inside_table table c.args.place c.requires.got.0 c.requires.got.1 c.requires.got.2 in
+    let next = get_or c.args.analysis.now.nexts.now c.args.place 0 in
+    let first = get_or c.args.analysis.now.firsts.now c.args.place 0 in
+    let at = slice_get-get_or c.args.analysis.now.firsts.now c.args.place 0 (omega (arith, inside, c.requires.analysis.firsts.whole)) in
+    let is = c.requires.analysis.firsts.each c.args.place first c.requires.got.4.key at
+    (on_source h table c.requires.analysis.table c.args.op c.args.place c.requires.got) in (
       refl,
-      got_is h table c.requires.analysis.table c.args.op c.args.place c.requires.got c.in-Some.first (get_or c.args.analysis.now.nexts.now c.args.place 0)
-          ((next_at h table c.args.analysis.now.nexts.now c.requires.analysis.nexts c.args.place inside (get_or c.args.analysis.now.nexts.now c.args.place 0) refl).0 (omega (arith, c.if-from-analysis.false)))
-          (c.in-Some.ensures table source.key c.requires.analysis.by_key (ap (option_map key_of) source.got)),
+      got_is h table c.requires.analysis.table c.args.op c.args.place c.requires.got first next
+          ((next_at h table c.args.analysis.now.nexts.now c.requires.analysis.nexts c.args.place inside next refl).0 (omega (arith, c.if-from-analysis.false)))
+          (omega arith, is.on_key, λ p _ on. is.least p on),
     )
