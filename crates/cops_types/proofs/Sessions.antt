@@ -85,26 +85,24 @@ module _ {V X : Type 0} (items : V → List X) (has_room : V → Bool) where
   pub same_items : (xs : List V) (i : ℕ) (old new : V) → old ≡ get_or xs i old → items new ≡ items old → map items (set xs i new) ≡ map items xs
   same_items xs i old new at same = map-set_same items xs i new old (same ∙ ap items at)
 
+  -- the items at an index are those of the element there
+  pub own_items : (xs : List V) (i : ℕ) (old : V) → i < length xs → old ≡ get_or xs i old → get_or (map items xs) i [] ≡ items old
+  own_items xs i old inside at = get_or-map items xs i old [] inside ∙ ap items (sym at)
+
   -- replacing an element by one with one more item
   pub more_items : (xs : List V) (i : ℕ) (old new : V) (x : X) → i < length xs → old ≡ get_or xs i old → items new ≡ items old ++ x ∷ []
       → map items (set xs i new) ≡ with_item (map items xs) i x
   more_items xs i old new x inside at more =
-      map-set items xs i new
-      ∙ ap (set (map items xs) i) (more ∙ ap (λ (s : List X). s ++ x ∷ []) (ap items at ∙ sym (get_or-map items xs i old [] inside)))
+      map-set items xs i new ∙ ap (set (map items xs) i) (more ∙ ap (λ (s : List X). s ++ x ∷ []) (sym (own_items xs i old inside at)))
 
   -- the other elements keep their room
   pub others_room : (xs : List V) (i c : ℕ) (new : V) → c ≢ i → get_or (map has_room xs) c false ≡ true → get_or (map has_room (set xs i new)) c false ≡ true
   others_room xs i c new other room = ap (λ (l : List Bool). get_or l c false) (map-set has_room xs i new) ∙ get_or-set_other (map has_room xs) i c (has_room new) false other ∙ room
 
   -- the new element has its own room
-  pub own_room : (xs : List V) (i : ℕ) (new : V) → i < length xs → has_room new ≡ true → get_or (map has_room (set xs i new)) i false ≡ true
-  own_room xs i new inside has =
-      let there : i < length (map has_room xs) = omega (arith, length-map xs has_room) in
-      ap (λ (l : List Bool). get_or l i false) (map-set has_room xs i new) ∙ get_or-set_same (map has_room xs) i (has_room new) false there ∙ has
-
-  -- the room at an index is that of the element there
-  pub room_says : (xs : List V) (i : ℕ) (old : V) → i < length xs → old ≡ get_or xs i old → get_or (map has_room xs) i false ≡ true → has_room old ≡ true
-  room_says xs i old inside at room = ap has_room at ∙ sym (get_or-map has_room xs i old false inside) ∙ room
+  pub own_room : (xs : List V) (i : ℕ) (new : V) → i < length xs → get_or (map has_room (set xs i new)) i false ≡ has_room new
+  own_room xs i new inside =
+      ap (λ (l : List Bool). get_or l i false) (map-set has_room xs i new) ∙ get_or-set_same (map has_room xs) i (has_room new) false (omega (arith, inside, length-map xs has_room))
 
   -- no room is lost if the new element has room whenever the old one had
   pub kept_room : (xs : List V) (i c : ℕ) (old new : V) → i < length xs → old ≡ get_or xs i old → (has_room old ≡ true → has_room new ≡ true)
@@ -113,8 +111,8 @@ module _ {V X : Type 0} (items : V → List X) (has_room : V → Bool) where
       elim (at_or_other i c) [
         | inl p ↦
             let was : get_or (map has_room xs) i false ≡ true = subst (λ (d : ℕ). get_or (map has_room xs) d false ≡ true) (sym p) room in
-            let has : has_room new ≡ true = keeps (room_says xs i old inside at was) in
-            subst (λ (d : ℕ). get_or (map has_room (set xs i new)) d false ≡ true) p (own_room xs i new inside has)
+            let has : has_room new ≡ true = keeps (ap has_room at ∙ sym (get_or-map has_room xs i old false inside) ∙ was) in
+            subst (λ (d : ℕ). get_or (map has_room (set xs i new)) d false ≡ true) p (own_room xs i new inside ∙ has)
         | inr p ↦ others_room xs i c new p room
       ]
 

@@ -3,10 +3,10 @@ use Rattle.std.proofs.Common.{◌≡◌, ℕ, zero, suc, ◌+◌, ◌<◌, ◌�
 use Rattle.std.specs.Prelude.{◌⊎◌, ◌≢◌, ◌↔◌, IfSome, IfNone}
 use Rattle.std.specs.Option.{option_and_then, option_map}
 use Rattle.std.proofs.Math.ListN.{set, get_or-map}
-use Rattle.std.proofs.lemmas.List.{map-set, map-append, length-map, get_or-map as get_or-map-inside}
+use Rattle.std.proofs.lemmas.List.{map-set, map-append, length-map}
 use Rattle.std.proofs.lemmas.Option.{slice_get-map, get_or_from_slice_get, slice_get_within}
 use Rattle.cops_types.specs.declared.entry.StoredOp.{StoredOp}
-use Rattle.cops_types.specs.declared.entry.StoredOp.TheVariants.{Put, Got, Sourced}
+use Rattle.cops_types.specs.declared.entry.StoredOp.TheVariants.{Put, Got, Sourced, Missed}
 use Rattle.cops_types.specs.declared.entry.StoredOpRef.{StoredOpRef}
 use Rattle.cops_types.specs.declared.entry.StoredOpRef.TheVariants.{Put as PutRef, Got as GotRef, Sourced as SourcedRef, Missed as MissedRef}
 use Rattle.cops_types.specs.declared.entry.NumberedPut.{NumberedPut}
@@ -16,12 +16,11 @@ use Rattle.cops_types.specs.declared.slot.KeptPut.{KeptPut}
 use Rattle.cops_types.specs.declared.slot.OpSlot.{OpSlot}
 use Rattle.cops_types.specs.declared.slot.OpSlot.TheVariants.{Put as PutSlot, Got as GotSlot, Sourced as SourcedSlot, Missed as MissedSlot}
 use Rattle.cops_types.specs.declared.versioned_put.VersionedPut.{VersionedPut}
-use Rattle.cops_types.specs.Entries.{EntryLists, HasValue, ListsEntries, value_in, value_put}
+use Rattle.cops_types.specs.Entries.{EntryLists, HasSource, HasValue, IsNumbered, ListsEntries, puts_in, value_in, value_put}
 use Rattle.cops_types.specs.Lists.{item_at, number_at, with_item}
 use Rattle.cops_types.specs.Recorded.{AreNumbered}
-use Rattle.cops_types.specs.Slots.{AreKept, IsFrom, IsThere, get_number_in, get_numbers_in, put_shown, source_shown, got_shown, shown, shown_by, versioned, content_of}
-use Rattle.cops_types.specs.Blocks.{KeptBlocks}
-use Rattle.cops_types.proofs.Sessions.{at_or_other, more_items}
+use Rattle.cops_types.specs.Slots.{AreKept, IsFrom, IsStored, IsThere, next_name, get_number_in, get_numbers_in, put_shown, source_shown, got_shown, shown, shown_by, versioned, content_of}
+use Rattle.cops_types.proofs.Sessions.{at_or_other}
 use Rattle.cops_types.proofs.Reporting.{item_came, item_stays, map-same}
 
 -- ---- lists
@@ -60,12 +59,10 @@ pub prefix_more : {X : Type 0} (xs : List X) (y : X) → IsPrefix xs (xs ++ y �
 prefix_more xs y = stays_left xs (y ∷ [])
 
 -- the item that is added to a client's list
-pub item_last : {X : Type 0} (lists : List (List X)) (client : ℕ) (item : X) (name : OpName) → client < length lists → name.client ≡ client → name.index ≡ length (get_or lists client [])
-    → item_at (with_item lists client item) name ≡ Some item
-item_last {X} lists client item name inside of at =
+pub item_last : {X : Type 0} (lists : List (List X)) (client : ℕ) (item : X) → client < length lists → item_at (with_item lists client item) (record { client = client; index = length (get_or lists client []) }) ≡ Some item
+item_last {X} lists client item inside =
     let own = get_or lists client [] in
-    let there : get_or (with_item lists client item) client [] ≡ own ++ item ∷ [] = get_or-set_same lists client (own ++ item ∷ []) [] inside in
-    (λ j. slice_get (get_or (with_item lists client item) (of j) []) (at j)) ∙ ap (λ (l : List X). slice_get l (length own)) there ∙ end_of own item
+    ap (λ (l : List X). slice_get l (length own)) (get_or-set_same lists client (own ++ item ∷ []) [] inside) ∙ end_of own item
 
 -- an item of the lists with one more item was there before, or is the new one, at its index
 pub item_came_last : {X : Type 0} (lists : List (List X)) (client : ℕ) (item : X) → client < length lists → (name : OpName) (x : X) → item_at (with_item lists client item) name ≡ Some x
@@ -120,7 +117,7 @@ module _ (puts puts' : List KeptPut) (gets gets' : List KeptGot) (more_puts : Is
         shown-same x (kept.there (record { client = c; index = i }) x (ap (λ (l : List OpSlot). slice_get l i) (get_or_from_slice_get slots c s [] at) ∙ here))))
 
     -- the client gains the entry of the slot
-    pub shown_by-more : (entry : StoredOp) → shown puts' gets' slot ≡ entry → shown_by puts' gets' (with_item slots client slot) ≡ with_item (shown_by puts gets slots) client entry
+    shown_by-more : (entry : StoredOp) → shown puts' gets' slot ≡ entry → shown_by puts' gets' (with_item slots client slot) ≡ with_item (shown_by puts gets slots) client entry
     shown_by-more entry is =
         let f = shown puts' gets' in
         let s = get_or slots client [] in
@@ -130,29 +127,27 @@ module _ (puts puts' : List KeptPut) (gets gets' : List KeptGot) (more_puts : Is
         ∙ ap (with_item (shown_by puts gets slots) client) is
 
     -- the invariant holds with one more slot
-    pub kept_more : length puts ≤ length puts' → length gets ≤ length gets' → IsThere (length puts') (length gets') slot
-        → ((n : ℕ) (p : KeptPut) → slice_get puts' n ≡ Some p → (slice_get puts n ≡ Some p) ⊎ (item_at (with_item slots client slot) p.name ≡ Some (PutSlot n)))
-        → ((name : OpName) (n : ℕ) → slot ≡ PutSlot n → name.client ≡ client → name.index ≡ length (get_or slots client []) → (p : KeptPut) × (slice_get puts' n ≡ Some p) × (p.name ≡ name))
+    kept_more : IsThere (length puts') (length gets') slot
+        → ((n : ℕ) (p : KeptPut) → slice_get puts' n ≡ Some p → (slice_get puts n ≡ Some p) ⊎ ((slot ≡ PutSlot n) × (p.name ≡ next_name slots client)))
+        → ((n : ℕ) → slot ≡ PutSlot n → (p : KeptPut) × (slice_get puts' n ≡ Some p) × (p.name ≡ next_name slots client))
         → ((n : ℕ) → n < length gets' → (n < length gets) ⊎ (slot ≡ GotSlot n)) → ((n : ℕ) → slot ≡ GotSlot n → length gets ≤ n)
         → AreKept puts' gets' (with_item slots client slot)
-    kept_more longer_puts longer_gets fits named last newer next = record {
+    kept_more fits named last newer next = record {
       there = λ name s at. elim (item_came slots client slot inside name s at) [
         | inl p ↦ still s (kept.there name s p)
         | inr p ↦ subst (IsThere (length puts') (length gets')) p fits
       ];
       named = λ n p at. elim (named n p at) [
         | inl was ↦ item_stays slots client slot inside p.name (PutSlot n) (kept.named n p was)
-        | inr is ↦ is
+        | inr is ↦ ap (item_at (with_item slots client slot)) is.1 ∙ item_last slots client slot inside ∙ ap (λ (s : OpSlot). Some s) is.0
       ];
       back = λ name n at. elim (item_came_last slots client slot inside name (PutSlot n) at) [
         | inl was ↦ let p = kept.back name n was in (p.0, more_puts n p.0 p.1, p.2)
-        | inr is ↦ last name n is.0 is.1 is.2
+        | inr is ↦ let p = last n is.0 in (p.0, p.1, p.2 ∙ (λ j. record { client = sym is.1 j; index = sym is.2 j }))
       ];
       each = λ n within. elim (newer n within) [
         | inl was ↦ let name = kept.each n was in (name.0, item_stays slots client slot inside name.0 (GotSlot n) name.1)
-        | inr is ↦
-            let name : OpName = record { client = client; index = length (get_or slots client []) } in
-            (name, item_last slots client slot name inside refl refl ∙ ap (λ (s : OpSlot). Some s) is)
+        | inr is ↦ (next_name slots client, item_last slots client slot inside ∙ ap (λ (s : OpSlot). Some s) is)
       ];
       once = λ a b n at also. elim (came a n at) [
         | inl p ↦ elim (came b n also) [
@@ -184,10 +179,18 @@ module _ (puts puts' : List KeptPut) (gets gets' : List KeptGot) (more_puts : Is
         came name n at = item_came_last slots client slot inside name (GotSlot n) at
 
         still : (s : OpSlot) → IsThere (length puts) (length gets) s → IsThere (length puts') (length gets') s
-        still (PutSlot n) there = omega (arith, there, longer_puts)
-        still (SourcedSlot n) there = omega (arith, there, longer_puts)
-        still (GotSlot n) there = omega (arith, there, longer_gets)
+        still (PutSlot n) there = let p = found puts n there in slice_get_within puts' n p.0 (more_puts n p.0 p.1)
+        still (SourcedSlot n) there = let p = found puts n there in slice_get_within puts' n p.0 (more_puts n p.0 p.1)
+        still (GotSlot n) there = let g = found gets n there in slice_get_within gets' n g.0 (more_gets n g.0 g.1)
         still (MissedSlot key) there = tt
+
+    -- both
+    pub with_slot : (entry : StoredOp) → shown puts' gets' slot ≡ entry → IsThere (length puts') (length gets') slot
+        → ((n : ℕ) (p : KeptPut) → slice_get puts' n ≡ Some p → (slice_get puts n ≡ Some p) ⊎ ((slot ≡ PutSlot n) × (p.name ≡ next_name slots client)))
+        → ((n : ℕ) → slot ≡ PutSlot n → (p : KeptPut) × (slice_get puts' n ≡ Some p) × (p.name ≡ next_name slots client))
+        → ((n : ℕ) → n < length gets' → (n < length gets) ⊎ (slot ≡ GotSlot n)) → ((n : ℕ) → slot ≡ GotSlot n → length gets ≤ n)
+        → AreKept puts' gets' (with_item slots client slot) × (shown_by puts' gets' (with_item slots client slot) ≡ with_item (shown_by puts gets slots) client entry)
+    with_slot entry is fits named last newer next = (kept_more fits named last newer next, shown_by-more entry is)
 
 module _ (puts : List KeptPut) (gets : List KeptGot) (slots : List (List OpSlot)) (kept : AreKept puts gets slots) where
   -- a put is the entry of its name
@@ -469,74 +472,50 @@ numbers_stay puts gets slots client slot inside name entry at =
 
 -- ---- one more operation
 
+-- the puts and the gets when an entry is stored
+pub gains : (entry : StoredOp) (name : OpName) (puts puts' : List KeptPut) (gets gets' : List KeptGot) (slot : OpSlot) → IsStored entry name puts gets puts' gets' slot
+    → (length puts' ≡ length puts + puts_in entry) × ((entries_of gets' ≡ entries_of gets) ⊎ (entries_of gets' ≡ entries_of gets ++ entry ∷ [])) × (length puts' ≤ length puts + 1) × (length gets' ≤ length gets + 1)
+gains (Put key value version) name puts puts' gets gets' slot s =
+    let more : length puts' ≡ length puts + 1 = omega (arith, ap length s.3, length-append puts (s.0 ∷ [])) in
+    (more, inl (ap entries_of s.4), omega (arith, more), omega (arith, ap length s.4))
+gains (Got key value version) name puts puts' gets gets' slot s =
+    let f = λ (g : KeptGot). got_shown (Some g) in (
+      omega (arith, ap length s.2),
+      inr (ap (map f) s.3 ∙ map-append f gets (s.0 ∷ []) ∙ ap (λ (e : StoredOp). map f gets ++ e ∷ []) s.1),
+      omega (arith, ap length s.2),
+      omega (arith, ap length s.3, length-append gets (s.0 ∷ [])),
+    )
+gains (Sourced key put version) name puts puts' gets gets' slot s = (omega (arith, ap length s.0), inl (ap entries_of s.1), omega (arith, ap length s.0), omega (arith, ap length s.1))
+gains (Missed key) name puts puts' gets gets' slot s = (omega (arith, ap length s.0), inl (ap entries_of s.1), omega (arith, ap length s.0), omega (arith, ap length s.1))
+
 module _ (puts : List KeptPut) (gets : List KeptGot) (slots : List (List OpSlot)) (kept : AreKept puts gets slots) (client : ℕ) (inside : client < length slots) where
-  -- a put
-  module _ (put : KeptPut) (of : put.name.client ≡ client) (at : put.name.index ≡ length (get_or slots client [])) where
-    abbrev slot_put : OpSlot
-    slot_put = PutSlot (length puts)
+  -- the slot of an entry that was stored becomes the client's last one
+  pub stored : (entry : StoredOp) (puts' : List KeptPut) (gets' : List KeptGot) (slot : OpSlot) → IsNumbered (map (λ (p : KeptPut). p.name) puts) entry → HasSource (shown_by puts gets slots) entry
+      → IsStored entry (next_name slots client) puts gets puts' gets' slot
+      → AreKept puts' gets' (with_item slots client slot) × (shown_by puts' gets' (with_item slots client slot) ≡ with_item (shown_by puts gets slots) client entry)
+  stored (Put key value version) puts' gets' slot numbered source s =
+      let put = s.0 in
+      rw (s.3, s.4, s.5) (with_slot puts (puts ++ put ∷ []) gets gets (prefix_more puts put) (prefix_same gets) slots kept client (PutSlot (length puts)) inside
+      (Put key value version) (ap put_shown (end_of puts put) ∙ s.2) (omega (arith, length-append puts (put ∷ [])))
+      (λ n p there. elim (slice_get-end puts put n p there) [ inl was ↦ inl was | inr end ↦ inr (ap (λ (k : ℕ). PutSlot k) (sym end.0), ap (λ (q : KeptPut). q.name) (sym end.1) ∙ s.1) ])
+      (λ n is. let number : length puts ≡ n = cc in (put, subst (λ (k : ℕ). slice_get (puts ++ put ∷ []) k ≡ Some put) number (end_of puts put), s.1))
+      (λ n within. inl within) (λ n is. cc))
+  stored (Got key value version) puts' gets' slot numbered source s =
+      let got = s.0 in
+      rw (s.2, s.3, s.4) (with_slot puts puts gets (gets ++ got ∷ []) (prefix_same puts) (prefix_more gets got) slots kept client (GotSlot (length gets)) inside
+      (Got key value version) (ap got_shown (end_of gets got) ∙ s.1) (omega (arith, length-append gets (got ∷ []))) (λ n p there. inl there) (λ n is. cc)
+      (λ n within. elim (under_or_at n (length gets) (omega (arith, within, length-append gets (got ∷ [])))) [ inl p ↦ inl p | inr p ↦ inr (ap (λ (k : ℕ). GotSlot k) (sym p)) ])
+      (λ n is. let e : length gets ≡ n = cc in omega (arith, e)))
+  stored (Sourced key put version) puts' gets' slot numbered source s =
+      let found = sourced puts gets slots kept put key version numbered source in
+      rw (s.0, s.1, s.2) (with_slot puts puts gets gets (prefix_same puts) (prefix_same gets) slots kept client (SourcedSlot put.number) inside
+      (Sourced key put version) found.1 found.0 (λ n p there. inl there) (λ n is. cc) (λ n within. inl within) (λ n is. cc))
+  stored (Missed key) puts' gets' slot numbered source s =
+      rw (s.0, s.1, s.2) (with_slot puts puts gets gets (prefix_same puts) (prefix_same gets) slots kept client (MissedSlot key) inside
+      (Missed key) refl tt (λ n p there. inl there) (λ n is. cc) (λ n within. inl within) (λ n is. cc))
 
-    pub all_with_put : (entry : StoredOp) → put_shown (Some put) ≡ entry → shown_by (puts ++ put ∷ []) gets (with_item slots client slot_put) ≡ with_item (shown_by puts gets slots) client entry
-    all_with_put entry is =
-        shown_by-more puts (puts ++ put ∷ []) gets gets (prefix_more puts put) (prefix_same gets) slots kept client slot_put inside entry (ap put_shown (end_of puts put) ∙ is)
+-- ---- slots as they are stored
 
-    pub kept_with_put : AreKept (puts ++ put ∷ []) gets (with_item slots client slot_put)
-    kept_with_put =
-        kept_more puts (puts ++ put ∷ []) gets gets (prefix_more puts put) (prefix_same gets) slots kept client slot_put inside
-        (omega (arith, length-append puts (put ∷ []))) (omega arith) (omega (arith, length-append puts (put ∷ [])))
-        (λ n p there. elim (slice_get-end puts put n p there) [
-          | inl was ↦ inl was
-          | inr end ↦
-              let here = item_last slots client slot_put put.name inside of at in
-              inr (subst (λ (q : KeptPut). item_at (with_item slots client slot_put) q.name ≡ Some (PutSlot n)) end.1 (here ∙ ap (λ (k : ℕ). Some (PutSlot k)) (sym end.0)))
-        ])
-        (λ name n is own_client own_index.
-        let number : length puts ≡ n = cc in
-        let same : put.name ≡ name = (λ j. record { client = (of ∙ sym own_client) j; index = (at ∙ sym own_index) j }) in
-        (put, subst (λ (k : ℕ). slice_get (puts ++ put ∷ []) k ≡ Some put) number (end_of puts put), same))
-        (λ n within. inl within) (λ n is. cc)
-
-  -- a get stored with what it returned
-  module _ (got : KeptGot) where
-    abbrev slot_got : OpSlot
-    slot_got = GotSlot (length gets)
-
-    pub all_with_got : (entry : StoredOp) → got_shown (Some got) ≡ entry → shown_by puts (gets ++ got ∷ []) (with_item slots client slot_got) ≡ with_item (shown_by puts gets slots) client entry
-    all_with_got entry is =
-        shown_by-more puts puts gets (gets ++ got ∷ []) (prefix_same puts) (prefix_more gets got) slots kept client slot_got inside entry (ap got_shown (end_of gets got) ∙ is)
-
-    pub kept_with_got : AreKept puts (gets ++ got ∷ []) (with_item slots client slot_got)
-    kept_with_got =
-        kept_more puts puts gets (gets ++ got ∷ []) (prefix_same puts) (prefix_more gets got) slots kept client slot_got inside
-        (omega arith) (omega (arith, length-append gets (got ∷ []))) (omega (arith, length-append gets (got ∷ []))) (λ n p there. inl there) (λ name n is own_client own_index. cc)
-        (λ n within. elim (under_or_at n (length gets) (omega (arith, within, length-append gets (got ∷ [])))) [ inl p ↦ inl p | inr p ↦ inr (ap (λ (k : ℕ). GotSlot k) (sym p)) ])
-        (λ n is. let e : length gets ≡ n = cc in omega (arith, e))
-
-  -- another get
-  module _ (slot : OpSlot) (fits : IsThere (length puts) (length gets) slot) (no_put : (n : ℕ) → slot ≡ PutSlot n → ⊥) (no_got : (n : ℕ) → slot ≡ GotSlot n → ⊥) where
-    pub all_with_slot : (entry : StoredOp) → shown puts gets slot ≡ entry → shown_by puts gets (with_item slots client slot) ≡ with_item (shown_by puts gets slots) client entry
-    all_with_slot entry is = shown_by-more puts puts gets gets (prefix_same puts) (prefix_same gets) slots kept client slot inside entry is
-
-    pub kept_with_slot : AreKept puts gets (with_item slots client slot)
-    kept_with_slot = kept_more puts puts gets gets (prefix_same puts) (prefix_same gets) slots kept client slot inside (omega arith) (omega arith) fits (λ n p there. inl there) (λ name n is own_client own_index. absurd (no_put n is))
-        (λ n within. inl within) (λ n is. absurd (no_got n is))
-
--- ---- sessions as they are stored
-
-module _ (puts : List KeptPut) (gets : List KeptGot) (sessions : List KeptBlocks) (client : ℕ) where
-  abbrev slots_of : List (List OpSlot)
-  slots_of = map (λ (b : KeptBlocks). b.items) sessions
-
-  -- a client that is there
-  pub has_slots : client < length (shown_by puts gets slots_of) → client < length slots_of
-  has_slots inside = omega (arith, inside, length-map slots_of (map (shown puts gets)))
-
-  pub is_there : client < length (shown_by puts gets slots_of) → client < length sessions
-  is_there inside = omega (arith, has_slots inside, length-map sessions (λ (b : KeptBlocks). b.items))
-
--- the sessions with one more slot
-module _ (sessions : List KeptBlocks) (client : ℕ) (session new : KeptBlocks) (slot : OpSlot) (inside : client < length sessions) (at : session ≡ get_or sessions client session) where
-  pub own_len : length (get_or (map (λ (b : KeptBlocks). b.items) sessions) client []) ≡ length session.items
-  own_len = ap length (get_or-map-inside (λ (b : KeptBlocks). b.items) sessions client session [] inside ∙ ap (λ (b : KeptBlocks). b.items) (sym at))
-
-  pub slots_more : new.items ≡ session.items ++ slot ∷ [] → map (λ (b : KeptBlocks). b.items) (set sessions client new) ≡ with_item (map (λ (b : KeptBlocks). b.items) sessions) client slot
-  slots_more more = more_items (λ b. b.items) (λ b. b.room) sessions client session new slot inside at more
+-- a client that is there
+pub has_slots : (puts : List KeptPut) (gets : List KeptGot) (slots : List (List OpSlot)) (client : ℕ) → client < length (shown_by puts gets slots) → client < length slots
+has_slots puts gets slots client inside = omega (arith, inside, length-map slots (map (shown puts gets)))

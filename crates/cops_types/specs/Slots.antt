@@ -1,5 +1,5 @@
 -- Slots: the operations in a session, as numbers that refer to lists of puts and of gets.
-use Rattle.std.specs.Prelude.{◌≡◌, ◌<◌, ℕ, List, length, map, Bool, true, false, Option, Some, None, option_copied, slice_get}
+use Rattle.std.specs.Prelude.{◌≡◌, ◌<◌, ◌++◌, ◌∷◌, [], ℕ, List, length, map, Bool, true, false, Option, Some, None, option_copied, slice_get, slice_index_or}
 use Rattle.cops_types.specs.declared.entry.StoredOp.{StoredOp}
 use Rattle.cops_types.specs.declared.entry.StoredOp.TheVariants.{Put, Got, Sourced, Missed}
 use Rattle.cops_types.specs.declared.entry.StoredOpRef.{StoredOpRef}
@@ -12,6 +12,11 @@ use Rattle.cops_types.specs.declared.slot.OpSlot.TheVariants.{Put as PutSlot, Go
 use Rattle.cops_types.specs.declared.versioned_put.VersionedPut.{VersionedPut}
 use Rattle.cops_types.specs.Entries.{EntryLists}
 use Rattle.cops_types.specs.Lists.{item_at}
+
+-- the slots of each client, in their order, and for each client whether there is room for its next one
+pub record KeptSlots : Type 0 where
+  pub all : List (List OpSlot)
+  pub room : List Bool
 
 -- the content that a flag and a value stand for
 abbrev pub content_of : Bool → List ℕ → Option (List ℕ)
@@ -75,3 +80,16 @@ pub record AreKept (puts : List KeptPut) (gets : List KeptGot) (slots : List (Li
 abbrev pub IsFrom : List KeptPut → StoredOpRef → Type 0
 IsFrom puts (SourcedRef key put value version) = (kept : KeptPut) × (slice_get puts put.number ≡ Some kept) × (kept.name ≡ put.name) × (content_of kept.has_value kept.value ≡ option_copied value)
 IsFrom puts _ = Unit {0}
+
+-- the name of a client's next entry
+abbrev pub next_name : List (List OpSlot) → ℕ → OpName
+next_name slots client = record { client = client; index = length (slice_index_or slots client []) }
+
+-- an entry of that name was stored: a put among the puts and a get with what it returned among the gets, each at the end; and this is its slot
+abbrev pub IsStored : StoredOp → OpName → List KeptPut → List KeptGot → List KeptPut → List KeptGot → OpSlot → Type 0
+IsStored (Put key value version) name puts gets new_puts new_gets slot =
+    (put : KeptPut) × (put.name ≡ name) × (put_shown (Some put) ≡ Put key value version) × (new_puts ≡ puts ++ put ∷ []) × (new_gets ≡ gets) × (slot ≡ PutSlot (length puts))
+IsStored (Got key value version) name puts gets new_puts new_gets slot =
+    (got : KeptGot) × (got_shown (Some got) ≡ Got key value version) × (new_puts ≡ puts) × (new_gets ≡ gets ++ got ∷ []) × (slot ≡ GotSlot (length gets))
+IsStored (Sourced key put version) name puts gets new_puts new_gets slot = (new_puts ≡ puts) × (new_gets ≡ gets) × (slot ≡ SourcedSlot put.number)
+IsStored (Missed key) name puts gets new_puts new_gets slot = (new_puts ≡ puts) × (new_gets ≡ gets) × (slot ≡ MissedSlot key)

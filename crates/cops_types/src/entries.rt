@@ -1,16 +1,14 @@
-ghost use Rattle.std.specs.Prelude.{◌≡◌, ◌≢◌, ◌<◌, ◌≤◌, ◌↔◌, ℕ, [], Some, true, false, length, map, option_copied, replicate, slice_index_or, vec_capacity, IfOk, IfSome};
-ghost use Rattle.cops_types.specs.Lists.{item_at, with_item};
-ghost use Rattle.cops_types.specs.Entries.{KeepsOthersRoom, referred};
-ghost use Rattle.cops_types.specs.Slots.{IsFrom, IsThere, got_shown, shown, versioned};
-ghost use Rattle.cops_types.specs.declared.slot.OpSlot.TheVariants.{Put as PutSlot, Got as GotSlot, Sourced as SourcedSlot};
-ghost use Rattle.cops_types.specs.declared.limits.TheConstants.{MAX_CLIENT_OPS};
+ghost use Rattle.std.specs.Prelude.{◌≡◌, ◌<◌, ◌≤◌, [], length, map, slice_index_or, vec_len, vec_capacity};
+ghost use Rattle.cops_types.specs.Entries.{referred};
+ghost use Rattle.cops_types.specs.Slots.{IsFrom, IsStored, IsThere, got_shown, next_name, shown, versioned};
+ghost use Rattle.cops_types.specs.declared.limits.TheConstants.{MAX_CLIENT_OPS, MAX_OPS};
 
-use crate::blocks::Blocks;
 use crate::entry::{NumberedPut, Returned, StoredOp, StoredOpRef};
 use crate::fault::Memory;
 use crate::op::OpName;
 use crate::op_ref::is_same_content;
 use crate::slot::{KeptGot, KeptPut, OpSlot, flagged};
+use crate::slots::Slots;
 use crate::value::Value;
 use crate::version::Version;
 use crate::versioned_put::VersionedPut;
@@ -22,7 +20,7 @@ use std::marker::Model;
 /// numbers.
 #[derive(Debug, Drop)]
 pub(crate) struct Entries {
-    sessions: Vec<Blocks>,
+    slots: Slots,
     puts: Vec<KeptPut>,
     gets: Vec<KeptGot>,
 }
@@ -35,16 +33,16 @@ impl Model for Entries {
     ghost Value = { KeptEntries };
 
     ghost view = { λ a. record {
-      all = shown_by a.puts.items a.gets.items (map (λ s. s.items) a.sessions.items);
-      room = map (λ s. s.room) a.sessions.items;
+      all = shown_by a.puts.items a.gets.items a.slots.all;
+      room = a.slots.room;
       names = map (λ p. p.name) a.puts.items;
       gets = map (λ g. got_shown (Some g)) a.gets.items;
-      get_numbers = get_numbers_in (map (λ s. s.items) a.sessions.items);
+      get_numbers = get_numbers_in a.slots.all;
       more_puts = vec_capacity a.puts - vec_len a.puts;
       more_gets = vec_capacity a.gets - vec_len a.gets;
     } };
 
-    ghost invariant = { λ a. AreKept a.puts.items a.gets.items (map (λ s. s.items) a.sessions.items) };
+    ghost invariant = { λ a. AreKept a.puts.items a.gets.items a.slots.all };
 }
 
 impl Entries {
@@ -52,9 +50,9 @@ impl Entries {
     ghost use Rattle.std.specs.Prelude.{◌≡◌, ◌≢◌, ◌<◌, ◌≤◌, ◌↔◌, ℕ, List, length, map, slice_get, slice_index_or, [], Option, Some, OnOk, IfOk, IfSome, IfNone, IsOk, IsTrue, replicate, true, false, vec_capacity, option_copied};
     ghost use Rattle.std.specs.Option.{option_map};
     ghost use Rattle.cops_types.specs.Lists.{item_at, number_at, with_item};
-    ghost use Rattle.cops_types.specs.Entries.{GainsEntry, HasGets, HasSource, HasValue, IsGetAt, IsNumbered, IsReturned, KeepsEntries, KeepsNumbers, KeepsOthersRoom, ListsEntries, NamesPut, referred, value_put};
+    ghost use Rattle.cops_types.specs.Entries.{GainsEntry, HasGets, HasSource, HasValue, IsGetAt, IsNumbered, IsReturned, KeepsEntries, KeepsNumbers, KeepsOthersRoom, ListsEntries, NamesPut, value_put};
     ghost use Rattle.cops_types.specs.Recorded.{AreNumbered};
-    ghost use Rattle.cops_types.specs.declared.entry.StoredOp.TheVariants.{Put, Got, Sourced, Missed};
+    ghost use Rattle.cops_types.specs.declared.entry.StoredOp.TheVariants.{Put, Got};
     ghost use Rattle.cops_types.specs.declared.limits.TheConstants.{MAX_CLIENT_OPS, MAX_OPS};
 
     /// No entries, for `clients` clients. Fails if memory runs out.
@@ -63,9 +61,9 @@ impl Entries {
         ensures names { IfOk result (λ entries. entries.names ≡ []) }
         ensures gets { IfOk result (λ entries. entries.gets ≡ []) }
     {
-        let sessions = no_slots(alloc, clients)?;
+        let slots = Slots::new(alloc, clients)?;
         Ok(Entries {
-            sessions,
+            slots,
             puts: Vec::new(alloc),
             gets: Vec::new(alloc),
         })
@@ -75,14 +73,14 @@ impl Entries {
     pub(crate) fn clients(&self) -> usize
         ensures { result ≡ length self.now.all }
     {
-        self.sessions.len()
+        self.slots.clients()
     }
 
     /// The number of a client's entries, 0 if there is no such client.
     pub(crate) fn session_len(&self, client: u16) -> usize
         ensures { result ≡ length (slice_index_or self.now.all client []) }
     {
-        slot_count(&self.sessions, client)
+        self.slots.count(client)
     }
 
     /// The number of puts, which is the number of the next one.
@@ -115,7 +113,7 @@ impl Entries {
         ensures none { IfNone result ((key version : ℕ) (value : Option (List ℕ)) → item_at self.now.all name ≢ Some (Got key value version)) }
         ensures numbered { result ≡ number_at self.now.get_numbers name }
     {
-        got_number_at(&self.sessions, name)
+        self.slots.get_number(name)
     }
 
     /// The entry of that name, if there is one.
@@ -123,7 +121,7 @@ impl Entries {
         ensures entry { option_map referred result ≡ item_at self.now.all name }
         ensures value { IfSome result (HasValue self.now.all) }
     {
-        let slot = slot_at(&self.sessions, name)?;
+        let slot = self.slots.get(name)?;
         Some(refer(&self.puts, &self.gets, *slot))
     }
 
@@ -134,7 +132,7 @@ impl Entries {
         ensures put { IfSome result (λ _. (key version : ℕ) × (value : Option (List ℕ)) × (item_at self.now.all name ≡ Some (Put key value version))) }
         ensures none { IfNone result ((key version : ℕ) (value : Option (List ℕ)) → item_at self.now.all name ≢ Some (Put key value version)) }
     {
-        number_at(&self.sessions, name)
+        self.slots.put_number(name)
     }
 
     /// The number of the put to which the get of that name refers, if it refers to one.
@@ -142,7 +140,7 @@ impl Entries {
     pub(crate) fn source_number(&self, name: OpName) -> Option<u32>
         ensures { IfSome result (NamesPut self.now name) }
     {
-        source_number_at(&self.sessions, name)
+        self.slots.source_number(name)
     }
 
     /// What the put of that name wrote, if there is one.
@@ -263,9 +261,7 @@ impl Entries {
         ensures keeps { KeepsEntries self.old self.new }
         ensures room { OnOk result (slice_index_or self.new.room client false ≡ true) }
     {
-        let session = &mut self.sessions[client as usize];
-        session.reserve()?;
-        Ok(())
+        self.slots.reserve(client)
     }
 
     /// Adds a client's next entry. Allocates nothing: room has to be reserved.
@@ -285,179 +281,65 @@ impl Entries {
         ensures numbers { KeepsNumbers self.old self.new }
         ensures others { KeepsOthersRoom client self.old.room self.new.room }
     {
-        match entry {
-            StoredOp::Put {
+        let slot = kept(&mut self.puts, &mut self.gets, &self.slots, client, entry);
+        self.slots.push(client, slot);
+    }
+}
+
+/// Stores what is an entry's own among the puts or the gets, in room that was reserved, and gives its slot. The slots are
+/// those before it.
+#[inline(always)]
+fn kept(
+    puts: &mut Vec<KeptPut>,
+    gets: &mut Vec<KeptGot>,
+    slots: &Slots,
+    client: u16,
+    entry: StoredOp,
+) -> OpSlot
+    requires few { length (slice_index_or slots.now.all client []) < MAX_CLIENT_OPS }
+    requires more_puts { vec_len puts.old < vec_capacity puts.old }
+    requires more_gets { vec_len gets.old < vec_capacity gets.old }
+    requires few_puts { length puts.old.items < MAX_OPS }
+    requires few_gets { length gets.old.items < MAX_OPS }
+    ensures stored { IsStored entry (next_name slots.now.all client) puts.old.items gets.old.items puts.new.items gets.new.items result }
+    ensures puts { vec_capacity puts.new ≡ vec_capacity puts.old }
+    ensures gets { vec_capacity gets.new ≡ vec_capacity gets.old }
+{
+    match entry {
+        StoredOp::Put {
+            key,
+            value,
+            version,
+        } => {
+            let number = puts.len() as u32;
+            let index = slots.count(client) as u32;
+            let (has_value, value) = flagged(*puts.allocator(), value);
+            puts.push_reserved(KeptPut {
+                name: OpName { client, index },
                 key,
-                value,
+                has_value,
                 version,
-            } => self.push_put(client, key, value, version),
-            StoredOp::Got {
-                key,
                 value,
-                version,
-            } => self.push_got(client, key, value, version),
-            StoredOp::Sourced { key, put, version } => self.push_sourced(client, key, put, version),
-            StoredOp::Missed { key } => self.push_missed(client, key),
+            });
+            OpSlot::Put(number)
         }
-    }
-
-    /// Adds a put.
-    #[inline(always)]
-    fn push_put(&mut self, client: u16, key: u32, value: Option<Value>, version: Version)
-        requires inside { client < length self.old.all }
-        requires room { slice_index_or self.old.room client false ≡ true }
-        requires few { length (slice_index_or self.old.all client []) < MAX_CLIENT_OPS }
-        requires more_puts { 0 < self.old.more_puts }
-        requires few_names { length self.old.names < MAX_OPS }
-        ensures all { self.new.all ≡ with_item self.old.all client (Put key value version) }
-        ensures gains { GainsEntry (Put key value version) self.old self.new }
-        ensures numbers { KeepsNumbers self.old self.new }
-        ensures others { KeepsOthersRoom client self.old.room self.new.room }
-    {
-        let number = self.puts.len() as u32;
-        let name = OpName {
-            client,
-            index: slot_count(&self.sessions, client) as u32,
-        };
-        push_slot(&mut self.sessions, client, OpSlot::Put(number));
-        let (has_value, value) = flagged(*self.puts.allocator(), value);
-        self.puts.push_reserved(KeptPut {
-            name,
+        StoredOp::Got {
             key,
-            has_value,
-            version,
             value,
-        });
-    }
-
-    /// Adds a get with what it returned.
-    #[inline(always)]
-    fn push_got(&mut self, client: u16, key: u32, value: Option<Value>, version: Version)
-        requires inside { client < length self.old.all }
-        requires room { slice_index_or self.old.room client false ≡ true }
-        requires few { length (slice_index_or self.old.all client []) < MAX_CLIENT_OPS }
-        requires more_gets { 0 < self.old.more_gets }
-        requires few_gets { length self.old.gets < MAX_OPS }
-        ensures all { self.new.all ≡ with_item self.old.all client (Got key value version) }
-        ensures gains { GainsEntry (Got key value version) self.old self.new }
-        ensures numbers { KeepsNumbers self.old self.new }
-        ensures others { KeepsOthersRoom client self.old.room self.new.room }
-    {
-        let number = self.gets.len() as u32;
-        push_slot(&mut self.sessions, client, OpSlot::Got(number));
-        let (has_value, value) = flagged(*self.gets.allocator(), value);
-        self.gets.push_reserved(KeptGot {
-            key,
-            has_value,
             version,
-            value,
-        });
-    }
-
-    /// Adds a get that returned what this put wrote.
-    #[inline(always)]
-    fn push_sourced(&mut self, client: u16, key: u32, put: NumberedPut, version: Version)
-        requires inside { client < length self.old.all }
-        requires room { slice_index_or self.old.room client false ≡ true }
-        requires few { length (slice_index_or self.old.all client []) < MAX_CLIENT_OPS }
-        requires numbered { slice_get self.old.names put.number ≡ Some put.name }
-        requires source { item_at self.old.all put.name ≡ Some (Put key (value_put self.old.all put.name) version) }
-        ensures all { self.new.all ≡ with_item self.old.all client (Sourced key put version) }
-        ensures gains { GainsEntry (Sourced key put version) self.old self.new }
-        ensures numbers { KeepsNumbers self.old self.new }
-        ensures others { KeepsOthersRoom client self.old.room self.new.room }
-    {
-        push_slot(&mut self.sessions, client, OpSlot::Sourced(put.number));
-    }
-
-    /// Adds a get that found nothing.
-    #[inline(always)]
-    fn push_missed(&mut self, client: u16, key: u32)
-        requires inside { client < length self.old.all }
-        requires room { slice_index_or self.old.room client false ≡ true }
-        requires few { length (slice_index_or self.old.all client []) < MAX_CLIENT_OPS }
-        ensures all { self.new.all ≡ with_item self.old.all client (Missed key) }
-        ensures gains { GainsEntry (Missed key) self.old self.new }
-        ensures numbers { KeepsNumbers self.old self.new }
-        ensures others { KeepsOthersRoom client self.old.room self.new.room }
-    {
-        push_slot(&mut self.sessions, client, OpSlot::Missed(key));
-    }
-}
-
-/// No slots, for `clients` clients.
-fn no_slots(alloc: Global, clients: u16) -> Result<Vec<Blocks>, Memory>
-    ensures { IfOk result (λ sessions. map (λ s. s.items) sessions.items ≡ replicate clients []) }
-{
-    let mut sessions = Vec::new(alloc);
-    for _ in 0..clients {
-        sessions.push(Blocks::new(alloc))?;
-    }
-    Ok(sessions)
-}
-
-/// The number of a client's slots, 0 if there is no such client.
-#[inline(always)]
-fn slot_count(sessions: &[Blocks], client: u16) -> usize
-    ensures { result ≡ length (slice_index_or (map (λ s. s.items) sessions.now) client []) }
-{
-    match sessions.get(client as usize) {
-        Some(session) => session.len(),
-        None => 0,
-    }
-}
-
-/// Adds a client's next slot. Allocates nothing: room has to be reserved.
-#[inline(always)]
-fn push_slot(sessions: &mut Vec<Blocks>, client: u16, slot: OpSlot)
-    requires inside { client < length sessions.old.items }
-    requires room { slice_index_or (map (λ s. s.room) sessions.old.items) client false ≡ true }
-    requires few { length (slice_index_or (map (λ s. s.items) sessions.old.items) client []) < MAX_CLIENT_OPS }
-    ensures slots { map (λ s. s.items) sessions.new.items ≡ with_item (map (λ s. s.items) sessions.old.items) client slot }
-    ensures others { KeepsOthersRoom client (map (λ s. s.room) sessions.old.items) (map (λ s. s.room) sessions.new.items) }
-{
-    let session = &mut sessions[client as usize];
-    session.push(slot);
-}
-
-/// The slot of that name, if there is one.
-#[inline(always)]
-fn slot_at(sessions: &[Blocks], name: OpName) -> Option<&OpSlot>
-    ensures { option_copied result ≡ item_at (map (λ s. s.items) sessions.now) name }
-{
-    sessions.get(name.client as usize)?.get(name.index as usize)
-}
-
-/// The number of the put of that name, if there is one.
-#[inline(always)]
-fn number_at(sessions: &[Blocks], name: OpName) -> Option<u32>
-    ensures { (n : ℕ) → (result ≡ Some n) ↔ (item_at (map (λ s. s.items) sessions.now) name ≡ Some (PutSlot n)) }
-{
-    match slot_at(sessions, name)? {
-        OpSlot::Put(number) => Some(*number),
-        _ => None,
-    }
-}
-
-/// The number of the put to which the get of that name refers, if it refers to one.
-#[inline(always)]
-fn source_number_at(sessions: &[Blocks], name: OpName) -> Option<u32>
-    ensures { IfSome result (λ n. item_at (map (λ s. s.items) sessions.now) name ≡ Some (SourcedSlot n)) }
-{
-    match slot_at(sessions, name)? {
-        OpSlot::Sourced(number) => Some(*number),
-        _ => None,
-    }
-}
-
-/// The number of the get of that name, if it is stored with what it returned.
-#[inline(always)]
-fn got_number_at(sessions: &[Blocks], name: OpName) -> Option<u32>
-    ensures { (n : ℕ) → (result ≡ Some n) ↔ (item_at (map (λ s. s.items) sessions.now) name ≡ Some (GotSlot n)) }
-{
-    match slot_at(sessions, name)? {
-        OpSlot::Got(number) => Some(*number),
-        _ => None,
+        } => {
+            let number = gets.len() as u32;
+            let (has_value, value) = flagged(*gets.allocator(), value);
+            gets.push_reserved(KeptGot {
+                key,
+                has_value,
+                version,
+                value,
+            });
+            OpSlot::Got(number)
+        }
+        StoredOp::Sourced { put, .. } => OpSlot::Sourced(put.number),
+        StoredOp::Missed { key } => OpSlot::Missed(key),
     }
 }
 

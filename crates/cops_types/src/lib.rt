@@ -31,6 +31,7 @@ mod selection;
 mod session_ref;
 mod short_bytes;
 mod slot;
+mod slots;
 mod value;
 mod version;
 mod versioned_put;

@@ -1,4 +1,4 @@
-use Rattle.std.proofs.Common.{sym, true≢false}
+use Rattle.std.proofs.Common.{sym}
 use Rattle.cops_types.specs.Dep.{is_same_dep}
 use Rattle.cops_types.proofs.DepLemmas.{distinct_none, distinct_more, repeated}
 use Rattle.cops_types.proofs.dep.are_apart.Goals as goal

@@ -1,5 +1,5 @@
 use Rattle.std.specs.Prelude.{option_copied}
-use Rattle.std.proofs.Common.{[], Some, get_or, ◌≡◌, ap, ◌∙◌, subst, sym}
+use Rattle.std.proofs.Common.{[], get_or, ◌≡◌, ap, ◌∙◌, subst, sym}
 use Rattle.cops_types.specs.Histories.{write, read, missed}
 use Rattle.cops_types.specs.Entries.{HasValue, reported, key_number_of, referred, value_put}
 use Rattle.cops_types.proofs.Sources.{none_reported, reported_as}

@@ -1,5 +1,5 @@
 use Rattle.std.specs.Prelude.{option_copied}
-use Rattle.std.proofs.Common.{[], Some, get_or, sym, ap}
+use Rattle.std.proofs.Common.{[], get_or, sym, ap}
 use Rattle.cops_types.specs.Histories.{write}
 use Rattle.cops_types.specs.Entries.{referred, reported}
 use Rattle.cops_types.proofs.Sources.{no_put_there, none_reported, reported_as}

@@ -1,0 +1,48 @@
+use Rattle.std.proofs.Common.{arith}
+use Rattle.std.proofs.lemmas.List.{length-map}
+use Rattle.cops_types.specs.declared.slot.KeptPut.{KeptPut}
+use Rattle.cops_types.proofs.Showing.{gains, has_slots, length-shown, numbers_stay, stored}
+use Rattle.cops_types.proofs.entries.Entries.push.Goals as goal
+
+pub kept-slot-requires-clause-few : goal.kept-slot-requires-clause-few
+kept-slot-requires-clause-few c =
+    omega (arith, rw (← c.self.view_is) at c.requires.few, length-shown c.self.inside.puts.items c.self.inside.gets.items c.self.inside.slots.all c.args.client)
+
+pub push-requires-clause-inside : goal.push-requires-clause-inside
+push-requires-clause-inside c = has_slots c.self.inside.puts.items c.self.inside.gets.items c.self.inside.slots.all c.args.client (rw (← c.self.view_is) at c.requires.inside)
+
+pub push-requires-clause-few : goal.push-requires-clause-few
+push-requires-clause-few c =
+    omega (arith, rw (← c.self.view_is) at c.requires.few, length-shown c.self.inside.puts.items c.self.inside.gets.items c.self.inside.slots.all c.args.client)
+
+pub invariant_of-self : goal.invariant_of-self
+invariant_of-self c =
+    let slots = c.self.inside.slots.all in
+    let there = has_slots c.self.inside.puts.items c.self.inside.gets.items slots c.args.client (rw (← c.self.view_is) at c.requires.inside) in
+    rw c.push.ensures.slots (stored c.self.inside.puts.items c.self.inside.gets.items slots c.self.invariant c.args.client there c.args.entry c.kept-slot.new.puts.items c.kept-slot.new.gets.items c.kept-slot.result
+    (rw (← c.self.view_is) at c.requires.numbered) (rw (← c.self.view_is) at c.requires.source) c.kept-slot.ensures.stored).0
+
+pub returns-clause-all : goal.returns-clause-all
+returns-clause-all c =
+    let slots = c.self.inside.slots.all in
+    let there = has_slots c.self.inside.puts.items c.self.inside.gets.items slots c.args.client (rw (← c.self.view_is) at c.requires.inside) in
+    rw (c.push.ensures.slots, ← c.self.view_is) (stored c.self.inside.puts.items c.self.inside.gets.items slots c.self.invariant c.args.client there c.args.entry c.kept-slot.new.puts.items c.kept-slot.new.gets.items c.kept-slot.result
+    (rw (← c.self.view_is) at c.requires.numbered) (rw (← c.self.view_is) at c.requires.source) c.kept-slot.ensures.stored).1
+
+pub returns-clause-gains : goal.returns-clause-gains
+returns-clause-gains c =
+    let puts = c.self.inside.puts.items in
+    let now = c.kept-slot.new.puts.items in
+    let more = gains c.args.entry _ puts now c.self.inside.gets.items c.kept-slot.new.gets.items c.kept-slot.result c.kept-slot.ensures.stored in
+    rw (← c.self.view_is) (record {
+      names = omega (arith, more.0, length-map puts (λ (p : KeptPut). p.name), length-map now (λ (p : KeptPut). p.name));
+      gets = more.1;
+      more_puts = omega (arith, more.2, c.kept-slot.ensures.puts);
+      more_gets = omega (arith, more.3, c.kept-slot.ensures.gets);
+    })
+
+pub returns-clause-numbers : goal.returns-clause-numbers
+returns-clause-numbers c =
+    let slots = c.self.inside.slots.all in
+    let there = has_slots c.self.inside.puts.items c.self.inside.gets.items slots c.args.client (rw (← c.self.view_is) at c.requires.inside) in
+    rw (c.push.ensures.slots, ← c.self.view_is) (numbers_stay c.self.inside.puts.items c.self.inside.gets.items slots c.args.client c.kept-slot.result there)
