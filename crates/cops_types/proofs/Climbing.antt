@@ -3,7 +3,7 @@ use Rattle.std.proofs.Common.{◌≡◌, ◌≢◌, ◌<◌, ◌≤◌, ◌+◌,
 use Rattle.std.proofs.Math.ListN.{length-set}
 use Rattle.std.proofs.Math.Nat.{eq-or-lt_of_le}
 use Rattle.std.proofs.lemmas.Bool.{cases_eq, cases_lt}
-use Rattle.std.proofs.lemmas.List.{length-replicate}
+use Rattle.std.proofs.lemmas.List.{get_or-replicate, length-replicate}
 use Rattle.std.proofs.lemmas.Option.{slice_get_within}
 use Rattle.cops_types.specs.declared.op.OpName.{OpName}
 use Rattle.cops_types.specs.declared.maxima.Maxima.{Maxima}
@@ -11,7 +11,8 @@ use Rattle.cops_types.specs.Histories.{Sessions, op_at, with_op, PutsVersion, Op
 use Rattle.cops_types.specs.Faults.{HasVersion, IsNotAbove, IsNotBelow}
 use Rattle.cops_types.specs.Maxima.{AreSessionMaxima, HasNotAbove, IsMaximum, IsSessionAbove}
 use Rattle.cops_types.specs.Verdicts.{AllAbove}
-use Rattle.cops_types.proofs.Showing.{slice_get-end, stays_left, end_of}
+use Rattle.cops_types.proofs.Sessions.{none_of}
+use Rattle.cops_types.proofs.Showing.{item_came_last, item_last, item_stays}
 
 same_name : (a b : OpName) → a.client ≡ b.client → a.index ≡ b.index → a ≡ b
 same_name a b c i = λ j. record { client = c j; index = i j }
@@ -129,44 +130,19 @@ module _ (h : Sessions) (client : ℕ) (op : Operation) (inside : client < lengt
   abbrev longer : Sessions
   longer = with_op h client op
 
-  own_longer : slice_index_or longer client [] ≡ own ++ op ∷ []
-  own_longer = get_or-set_same h client (own ++ op ∷ []) [] inside
-
-  others_same : (c : ℕ) → c ≢ client → slice_index_or longer c [] ≡ slice_index_or h c []
-  others_same c differs = get_or-set_other h client c (own ++ op ∷ []) [] differs
-
-  pub op_kept : (n : OpName) (x : Operation) → op_at h n ≡ Some x → op_at longer n ≡ Some x
-  op_kept n x at = elim (cases_eq n.client client) [
-    | inl same ↦
-        let e : slice_index_or longer n.client [] ≡ slice_index_or h n.client [] ++ op ∷ [] = ap (λ (c : ℕ). slice_index_or longer c []) same ∙ own_longer ∙ ap (λ (c : ℕ). slice_index_or h c [] ++ op ∷ []) (sym same) in
-        ap (λ (s : List Operation). slice_get s n.index) e ∙ stays_left (slice_index_or h n.client []) (op ∷ []) n.index x at
-    | inr differs ↦ ap (λ (s : List Operation). slice_get s n.index) (others_same n.client differs) ∙ at
-  ]
-
-  op_was : (n : OpName) (x : Operation) → op_at longer n ≡ Some x → (op_at h n ≡ Some x) ⊎ ((n.client ≡ client) × (n.index ≡ length own) × (op ≡ x))
-  op_was n x at = elim (cases_eq n.client client) [
-    | inl same ↦
-        let e : slice_index_or longer n.client [] ≡ own ++ op ∷ [] = ap (λ (c : ℕ). slice_index_or longer c []) same ∙ own_longer in
-        elim (slice_get-end own op n.index x (ap (λ (s : List Operation). slice_get s n.index) (sym e) ∙ at)) [
-          | inl old ↦ inl (ap (λ (c : ℕ). slice_get (slice_index_or h c []) n.index) same ∙ old)
-          | inr new ↦ inr (same, new.0, new.1)
-        ]
-    | inr differs ↦ inl (ap (λ (s : List Operation). slice_get s n.index) (sym (others_same n.client differs)) ∙ at)
-  ]
-
   abbrev last : OpName
   last = record { client = client; index = length own }
 
   last_there : op_at longer last ≡ Some op
-  last_there = ap (λ (s : List Operation). slice_get s (length own)) own_longer ∙ end_of own op
+  last_there = item_last h client op inside
 
   has_kept : (n : OpName) (v : ℕ) → HasVersion h n v → HasVersion longer n v
-  has_kept n v (inl a) = inl (a.0, a.1, op_kept n (write a.0 a.1 v) a.2)
-  has_kept n v (inr a) = inr (a.0, a.1, op_kept n (read a.0 a.1 v) a.2)
+  has_kept n v (inl a) = inl (a.0, a.1, item_stays h client op inside n (write a.0 a.1 v) a.2)
+  has_kept n v (inr a) = inr (a.0, a.1, item_stays h client op inside n (read a.0 a.1 v) a.2)
 
   has_was : (n : OpName) (v : ℕ) → HasVersion longer n v → HasVersion h n v ⊎ ((n.client ≡ client) × (n.index ≡ length own))
-  has_was n v (inl a) = elim (op_was n (write a.0 a.1 v) a.2) [ inl old ↦ inl (inl (a.0, a.1, old)) | inr new ↦ inr (new.0, new.1) ]
-  has_was n v (inr a) = elim (op_was n (read a.0 a.1 v) a.2) [ inl old ↦ inl (inr (a.0, a.1, old)) | inr new ↦ inr (new.0, new.1) ]
+  has_was n v (inl a) = elim (item_came_last h client op inside n (write a.0 a.1 v) a.2) [ inl old ↦ inl (inl (a.0, a.1, old)) | inr new ↦ inr (new.1, new.2) ]
+  has_was n v (inr a) = elim (item_came_last h client op inside n (read a.0 a.1 v) a.2) [ inl old ↦ inl (inr (a.0, a.1, old)) | inr new ↦ inr (new.1, new.2) ]
 
   -- the sessions' maxima stay
   maximum_kept : (c count maximum : ℕ) → count ≤ length (slice_index_or h c []) → IsMaximum h c count maximum → IsMaximum longer c count maximum
@@ -179,17 +155,17 @@ module _ (h : Sessions) (client : ℕ) (op : Operation) (inside : client < lengt
   }
 
   others_length : (c : ℕ) → c ≢ client → length (slice_index_or longer c []) ≡ length (slice_index_or h c [])
-  others_length c differs = ap length (others_same c differs)
+  others_length c differs = ap length (get_or-set_other h client c (own ++ op ∷ []) [] differs)
 
   own_length : length (slice_index_or longer client []) ≡ length own + 1
-  own_length = omega (arith, ap length own_longer, length-append own (op ∷ []))
+  own_length = omega (arith, ap length (get_or-set_same h client (own ++ op ∷ []) [] inside), length-append own (op ∷ []))
 
   -- an operation that makes a put faulty did so before, or the put is the last operation
   below_was : (e n : OpName) → IsNotBelow longer e n → IsNotBelow h e n ⊎ ((n.client ≡ client) × (n.index ≡ length own))
   below_was e n f =
       let put = f.put in
-      elim (op_was n (write put.0 put.1 f.own) put.2) [
-        | inr new ↦ inr (new.0, new.1)
+      elim (item_came_last h client op inside n (write put.0 put.1 f.own) put.2) [
+        | inr new ↦ inr (new.1, new.2)
         | inl old ↦ elim (has_was e f.version f.has) [
           | inl had ↦ inl (record { version = f.version; own = f.own; put = (put.0, put.1, old); has = had; same_client = f.same_client; before = f.before; not_below = f.not_below })
           | inr last ↦
@@ -202,7 +178,7 @@ module _ (h : Sessions) (client : ℕ) (op : Operation) (inside : client < lengt
   below_kept : (e n : OpName) → IsNotBelow h e n → IsNotBelow longer e n
   below_kept e n f =
       let put = f.put in
-      record { version = f.version; own = f.own; put = (put.0, put.1, op_kept n (write put.0 put.1 f.own) put.2); has = has_kept e f.version f.has; same_client = f.same_client; before = f.before; not_below = f.not_below }
+      record { version = f.version; own = f.own; put = (put.0, put.1, item_stays h client op inside n (write put.0 put.1 f.own) put.2); has = has_kept e f.version f.has; same_client = f.same_client; before = f.before; not_below = f.not_below }
 
   module _ (old : Maxima) (was : AreSessionMaxima h old) where
     abbrev before_last : ℕ
@@ -334,101 +310,65 @@ module _ (h : Sessions) (client : ℕ) (op : Operation) (inside : client < lengt
         not_above = λ _. let found = falls h client op inside old was v put some low in (found.0, found.1, found.3);
       }
 
+  -- the last operation is not a put, or is a put above what its session saw
+  climbed : (number : ℕ) → ((v : ℕ) → HasVersion grown newest v → number ≡ v) → (number ≡ 0) ⊎ HasVersion grown newest number → ((v : ℕ) → PutsVersion grown newest v → own_maximum < v)
+      → length new.sessions.items ≡ length old.sessions.items → slice_index_or new.sessions.items client 0 ≡ max own_maximum number
+      → ((c : ℕ) → c ≢ client → slice_index_or new.sessions.items c 0 ≡ slice_index_or old.sessions.items c 0) → new.rise.items ≡ old.rise.items → new.are_above ≡ old.are_above
+      → AreSessionMaxima (with_op h client op) new
+  climbed number is has rises len own_is others flag kept = record {
+    clients = clients_longer len;
+    each = maxima_more h client op inside old was number is has new.sessions.items len own_is others;
+    flags = flags_longer (ap length flag);
+    session_above = λ c t. session_still_above h client op inside old was rises c (was.session_above c (flag_same flag c ∙ t));
+    session_not_above = λ c small f. session_still_not_above h client op inside c (was.session_not_above c (was_there c small) (flag_same flag c ∙ f));
+    above = λ t. still_above h client op inside old was rises (was.above (sym kept ∙ t));
+    not_above = λ f. let last = was.not_above (sym kept ∙ f) in still_not_above h client op inside last.0 last.1 last.2;
+  }
+
   pub took_high : (v : ℕ) (key : List ℕ) (content : Option (List ℕ)) → op ≡ write key content v → own_maximum < v → new.sessions.items ≡ slice_set old.sessions.items client v → new.rise.items ≡ old.rise.items → new.are_above ≡ old.are_above
       → AreSessionMaxima (with_op h client op) new
-  took_high v key content e high same flag kept =
+  took_high v key content e high same =
       let put : PutsVersion grown newest v = (key, content, last_there h client op inside ∙ ap (λ (x : Operation). Some x) e) in
-      record {
-        clients = clients_longer (same_set v same);
-        each = maxima_more h client op inside old was v (λ w has. one_has grown newest v w (inl put) has) (inr (inl put)) new.sessions.items (same_set v same)
-            (own_set v same ∙ (let m : v ≡ max own_maximum v = omega (arith, high) in m)) (others_set v same);
-        flags = flags_longer (ap length flag);
-        session_above = λ c t. session_still_above h client op inside old was (λ w other. let s = one_version grown newest v w put other in omega (arith, s, high)) c (was.session_above c (flag_same flag c ∙ t));
-        session_not_above = λ c small f. session_still_not_above h client op inside c (was.session_not_above c (was_there c small) (flag_same flag c ∙ f));
-        above = λ t. still_above h client op inside old was (λ w other. let s = one_version grown newest v w put other in omega (arith, s, high)) (was.above (sym kept ∙ t));
-        not_above = λ f. let last = was.not_above (sym kept ∙ f) in still_not_above h client op inside last.0 last.1 last.2;
-      }
+      climbed v (λ w has. one_has grown newest v w (inl put) has) (inr (inl put)) (λ w other. let s = one_version grown newest v w put other in omega (arith, s, high))
+      (same_set v same) (own_set v same ∙ (let m : v ≡ max own_maximum v = omega (arith, high) in m)) (others_set v same)
 
   pub took_got : (v : ℕ) (key : List ℕ) (content : Option (List ℕ)) → op ≡ read key content v → new.sessions.items ≡ slice_set old.sessions.items client (max own_maximum v) → new.rise.items ≡ old.rise.items → new.are_above ≡ old.are_above
       → AreSessionMaxima (with_op h client op) new
-  took_got v key content e same flag kept =
+  took_got v key content e same =
       let at : op_at grown newest ≡ Some (read key content v) = last_there h client op inside ∙ ap (λ (x : Operation). Some x) e in
-      record {
-        clients = clients_longer (same_set (max own_maximum v) same);
-        each = maxima_more h client op inside old was v (λ w has. one_has grown newest v w (inr (key, content, at)) has) (inr (inr (key, content, at))) new.sessions.items (same_set (max own_maximum v) same)
-            (own_set (max own_maximum v) same) (others_set (max own_maximum v) same);
-        flags = flags_longer (ap length flag);
-        session_above = λ c t. session_still_above h client op inside old was (λ w other. let bad : Some (write other.0 other.1 w) ≡ Some (read key content v) = sym other.2 ∙ at in absurd cc) c (was.session_above c (flag_same flag c ∙ t));
-        session_not_above = λ c small f. session_still_not_above h client op inside c (was.session_not_above c (was_there c small) (flag_same flag c ∙ f));
-        above = λ t. still_above h client op inside old was (λ w other. let bad : Some (write other.0 other.1 w) ≡ Some (read key content v) = sym other.2 ∙ at in absurd cc) (was.above (sym kept ∙ t));
-        not_above = λ f. let last = was.not_above (sym kept ∙ f) in still_not_above h client op inside last.0 last.1 last.2;
-      }
+      climbed v (λ w has. one_has grown newest v w (inr (key, content, at)) has) (inr (inr (key, content, at)))
+      (λ w other. let bad : Some (write other.0 other.1 w) ≡ Some (read key content v) = sym other.2 ∙ at in absurd cc)
+      (same_set (max own_maximum v) same) (own_set (max own_maximum v) same) (others_set (max own_maximum v) same)
 
   pub took_missed : (key : List ℕ) → op ≡ missed key → new.sessions.items ≡ old.sessions.items → new.rise.items ≡ old.rise.items → new.are_above ≡ old.are_above
       → AreSessionMaxima (with_op h client op) new
-  took_missed key e same flag kept =
+  took_missed key e same =
       let at : op_at grown newest ≡ Some (missed key) = last_there h client op inside ∙ ap (λ (x : Operation). Some x) e in
-      record {
-        clients = clients_longer (ap length same);
-        each = maxima_more h client op inside old was 0 (λ w has. absurd (missed_has grown newest key w at has)) (inl refl) new.sessions.items (ap length same)
-            (ap (λ (l : List ℕ). slice_index_or l client 0) same ∙ (let m : own_maximum ≡ max own_maximum 0 = omega arith in m)) (λ c differs. ap (λ (l : List ℕ). slice_index_or l c 0) same);
-        flags = flags_longer (ap length flag);
-        session_above = λ c t. session_still_above h client op inside old was (λ w other. let bad : Some (write other.0 other.1 w) ≡ Some (missed key) = sym other.2 ∙ at in absurd cc) c (was.session_above c (flag_same flag c ∙ t));
-        session_not_above = λ c small f. session_still_not_above h client op inside c (was.session_not_above c (was_there c small) (flag_same flag c ∙ f));
-        above = λ t. still_above h client op inside old was (λ w other. let bad : Some (write other.0 other.1 w) ≡ Some (missed key) = sym other.2 ∙ at in absurd cc) (was.above (sym kept ∙ t));
-        not_above = λ f. let last = was.not_above (sym kept ∙ f) in still_not_above h client op inside last.0 last.1 last.2;
-      }
+      climbed 0 (λ w has. absurd (missed_has grown newest key w at has)) (inl refl) (λ w other. let bad : Some (write other.0 other.1 w) ≡ Some (missed key) = sym other.2 ∙ at in absurd cc)
+      (ap length same) (ap (λ (l : List ℕ). slice_index_or l client 0) same ∙ (let m : own_maximum ≡ max own_maximum 0 = omega arith in m)) (λ c differs. ap (λ (l : List ℕ). slice_index_or l c 0) same)
 
 -- sessions without operations
-empty_session : (clients client : ℕ) → slice_index_or (replicate clients (let none : List Operation = [] in none)) client [] ≡ []
-empty_session zero client = refl
-empty_session (suc clients) zero = refl
-empty_session (suc clients) (suc client) = empty_session clients client
-
-zero_maximum : (clients client : ℕ) → slice_index_or (replicate clients zero) client 0 ≡ 0
-zero_maximum zero client = refl
-zero_maximum (suc clients) zero = refl
-zero_maximum (suc clients) (suc client) = zero_maximum clients client
-
 nothing_there : (clients : ℕ) (n : OpName) (x : Operation) → ¬ (op_at (replicate clients []) n ≡ Some x)
-nothing_there clients n x at = let e : None ≡ Some x = sym (ap (λ (s : List Operation). slice_get s n.index) (empty_session clients n.client)) ∙ at in cc
-
-all_rise : (clients client : ℕ) → client < clients → slice_index_or (replicate clients true) client false ≡ true
-all_rise zero client small = absurd (omega (arith, small))
-all_rise (suc clients) zero small = refl
-all_rise (suc clients) (suc client) small = all_rise clients client (omega (arith, small))
+nothing_there clients n x at = let e : None ≡ Some x = sym (ap (λ (s : List Operation). slice_get s n.index) (none_of {X = Operation} clients n.client)) ∙ at in cc
 
 pub no_maxima : (clients : ℕ) (maxima : Maxima) → maxima.sessions.items ≡ replicate clients 0 → maxima.rise.items ≡ replicate clients true → maxima.are_above ≡ true
     → AreSessionMaxima (replicate clients []) maxima
 no_maxima clients maxima are rise above = record {
   clients = ap length are ∙ length-replicate clients 0 ∙ sym (length-replicate {A = List Operation} clients []);
   each = λ client small.
-      let len : length (slice_index_or (replicate clients (let none : List Operation = [] in none)) client []) ≡ 0 = ap length (empty_session clients client) in
-      let low : slice_index_or maxima.sessions.items client 0 ≡ 0 = ap (λ (l : List ℕ). slice_index_or l client 0) are ∙ zero_maximum clients client in
+      let len : length (slice_index_or (replicate clients (let none : List Operation = [] in none)) client []) ≡ 0 = ap length (none_of {X = Operation} clients client) in
+      let low : slice_index_or maxima.sessions.items client 0 ≡ 0 = ap (λ (l : List ℕ). slice_index_or l client 0) are ∙ get_or-replicate clients client 0 0 (omega (arith, small, length-replicate {A = List Operation} clients [])) in
       subst (λ (k : ℕ). IsMaximum (replicate clients []) client k (slice_index_or maxima.sessions.items client 0)) (sym len)
       (subst (IsMaximum (replicate clients []) client 0) (sym low) (maximum_none (replicate clients []) client));
   flags = ap length rise ∙ length-replicate clients true ∙ sym (length-replicate {A = List Operation} clients []);
   session_above = λ client t name earlier of f. let put = f.is_not_below.put in nothing_there clients name (write put.0 put.1 f.is_not_below.own) put.2;
   session_not_above = λ client small f.
       let up : slice_index_or maxima.rise.items client false ≡ true =
-      ap (λ (l : List Bool). slice_index_or l client false) rise ∙ all_rise clients client (omega (arith, small, length-replicate {A = List Operation} clients [])) in
+      ap (λ (l : List Bool). slice_index_or l client false) rise ∙ get_or-replicate clients client true false (omega (arith, small, length-replicate {A = List Operation} clients [])) in
       let bad : true ≡ false = sym up ∙ f in absurd cc;
   above = λ t name earlier f. let put = f.is_not_below.put in nothing_there clients name (write put.0 put.1 f.is_not_below.own) put.2;
   not_above = λ f. let e : true ≡ false = sym above ∙ f in cc;
 }
-
--- a maximum read at its index
-pub read_at : (maxima : List ℕ) (k x : ℕ) → k < length maxima → x ≡ slice_index_or maxima k x → x ≡ slice_index_or maxima k 0
-read_at maxima k x inside at = at ∙ inside_default maxima k inside
-  where
-    inside_default : (xs : List ℕ) (i : ℕ) → i < length xs → slice_index_or xs i x ≡ slice_index_or xs i 0
-    inside_default [] i less = absurd (omega (arith, less))
-    inside_default (y ∷ ys) zero less = refl
-    inside_default (y ∷ ys) (suc i) less = inside_default ys i (omega (arith, less))
-
-pub is_false : (b : Bool) → ¬ (b ≡ true) → b ≡ false
-is_false true differs = absurd (differs refl)
-is_false false differs = refl
 
 -- the index of a set flag is within the list
 pub flag_inside : (flags : List Bool) (i : ℕ) → slice_index_or flags i false ≡ true → i < length flags

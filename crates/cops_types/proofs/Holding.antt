@@ -1,8 +1,8 @@
 -- The invariant of a history, as clients reserve room and use it.
-use Rattle.std.proofs.Common.{◌≡◌, ◌≢◌, ℕ, zero, suc, ◌+◌, ◌-◌, ◌<◌, ◌≤◌, Bool, true, false, List, [], ◌∷◌, map, length, length-append, get_or, slice_get, replicate, sum_by, Some, None, ◌++◌, refl, sym, ap, ◌∙◌, subst, arith, get_or-set_same, get_or-set_other, inl, inr}
+use Rattle.std.proofs.Common.{◌≡◌, ◌≢◌, ℕ, ◌+◌, ◌-◌, ◌<◌, ◌≤◌, Bool, true, false, List, [], ◌∷◌, map, length, length-append, get_or, slice_get, replicate, sum_by, Some, None, ◌++◌, refl, sym, ap, ◌∙◌, subst, arith, get_or-set_same, get_or-set_other, inl, inr}
 use Rattle.std.proofs.Math.ListN.{set, length-set}
 use Rattle.std.proofs.lemmas.List.{length-replicate, length-map}
-use Rattle.std.proofs.lemmas.List.Sums.{sum_by-set, sum_by-cons}
+use Rattle.std.proofs.lemmas.List.Sums.{sum_by-le, sum_by-set}
 use Rattle.std.proofs.lemmas.List.Folds.{sum_by-replicate}
 use Rattle.cops_types.specs.declared.entry.StoredOp.{StoredOp}
 use Rattle.cops_types.specs.Counts.{count_of, is_put, put_count}
@@ -15,9 +15,9 @@ use Rattle.cops_types.specs.declared.maxima.Maxima.{Maxima}
 use Rattle.cops_types.specs.Keeping.{IsKept, flag_count}
 use Rattle.cops_types.specs.KeySets.{AreDistinct, GainsKey, KeptKeys}
 use Rattle.cops_types.specs.Recorded.{IsWithinLimits}
-use Rattle.cops_types.proofs.Sessions.{at_or_other, count-with_op, within_with_op, none_of, none_within, count-none, puts-none, puts-with_op}
-use Rattle.cops_types.proofs.Showing.{slice_get-end}
-use Rattle.cops_types.proofs.Reporting.{reported_by-with_item, sound-with_item, reported-none}
+use Rattle.cops_types.proofs.Sessions.{at_or_other, default_of, count-with_op, within_with_op, none_of, none_within, count-none, puts-none, puts-with_op}
+use Rattle.cops_types.proofs.Showing.{map-none, slice_get-end}
+use Rattle.cops_types.proofs.Reporting.{reported_by-with_item, sound-with_item}
 
 -- ---- puts
 
@@ -36,9 +36,7 @@ puts-reported keys all (Missed key) = refl
 
 -- no more flags are set than there are
 pub flags-le : (flags : List Bool) → sum_by flag_count flags ≤ length flags
-flags-le [] = omega arith
-flags-le (true ∷ flags) = omega (arith, flags-le flags, sum_by-cons flag_count true flags)
-flags-le (false ∷ flags) = omega (arith, flags-le flags, sum_by-cons flag_count false flags)
+flags-le flags = omega (arith, sum_by-le flag_count 1 flags (λ i b inside. flag-le (get_or flags i b)))
 
 pub set_flag : (flags : List Bool) (i : ℕ) → i < length flags → get_or flags i false ≡ false → sum_by flag_count (set flags i true) ≡ sum_by flag_count flags + 1
 set_flag flags i inside was = omega (arith, sum_by-set flag_count flags i true false inside, ap flag_count was)
@@ -46,17 +44,12 @@ set_flag flags i inside was = omega (arith, sum_by-set flag_count flags i true f
 pub clear_flag : (flags : List Bool) (i : ℕ) → i < length flags → get_or flags i false ≡ true → sum_by flag_count (set flags i false) + 1 ≡ sum_by flag_count flags
 clear_flag flags i inside was = omega (arith, sum_by-set flag_count flags i false false inside, ap flag_count was)
 
-no_flag : (n c : ℕ) → get_or (replicate n false) c false ≡ false
-no_flag zero c = refl
-no_flag (suc n) zero = refl
-no_flag (suc n) (suc c) = no_flag n c
-
 -- ---- a history with no operation
 
 pub new_kept : (keys : KeptKeys) (entries : KeptEntries) (maxima : Maxima) (n : ℕ) → n ≤ 65535 → keys.keys ≡ [] → entries.all ≡ replicate n [] → entries.names ≡ [] → entries.gets ≡ []
     → AreSessionMaxima (replicate n []) maxima → IsKept keys entries maxima (replicate n false) 0 0
 new_kept keys entries maxima n le no_keys no_entries no_names no_gets low =
-    let none : reported_by keys.keys entries.all ≡ replicate n [] = ap (λ (all : EntryLists). map (map (reported keys.keys entries.all)) all) no_entries ∙ reported-none keys.keys entries.all n in
+    let none : reported_by keys.keys entries.all ≡ replicate n [] = ap (λ (all : EntryLists). map (map (reported keys.keys entries.all)) all) no_entries ∙ map-none (reported keys.keys entries.all) n in
     record {
       limits = subst IsWithinLimits (sym none) (none_within n le);
       count = sym (ap count_of none ∙ count-none n);
@@ -65,7 +58,7 @@ new_kept keys entries maxima n le no_keys no_entries no_names no_gets low =
       distinct = λ i j key at also. let gone : None ≡ Some key = ap (λ (k : List (List ℕ)). slice_get k i) (sym no_keys) ∙ at in cc;
       few = omega (arith, ap length no_keys);
       flags = length-replicate n false ∙ sym (ap length no_entries ∙ length-replicate n []);
-      room = λ client flag. let gone : true ≡ false = sym flag ∙ no_flag n client in cc;
+      room = λ client flag. let gone : true ≡ false = sym flag ∙ default_of false n client in cc;
       held = omega (arith, sum_by-replicate flag_count n false);
       places = omega arith;
       put_places = omega arith;
@@ -86,51 +79,44 @@ module _ (k k' : KeptKeys) (e e' : KeptEntries) (maxima : Maxima) (reserved : Li
   pub same_reported : reported_by k'.keys e'.all ≡ reported_by k.keys e.all
   same_reported = λ j. reported_by (keys j) (all j)
 
-  -- more room keeps the invariant
-  pub room_kept : IsKept k' e' maxima reserved reservations len
-  room_kept = record {
+  -- the invariant with other reservations
+  reserved_kept : (flags : List Bool) (number : ℕ) → length flags ≡ length reserved → ((c : ℕ) → get_or flags c false ≡ true → get_or e'.room c false ≡ true) → number ≡ sum_by flag_count flags
+      → number ≤ k'.spare → number ≤ e'.more_puts → number ≤ e'.more_gets → IsKept k' e' maxima flags number len
+  reserved_kept flags number as_many room held places put_places get_places = record {
     limits = subst IsWithinLimits (sym same_reported) kept.limits;
     count = kept.count ∙ ap count_of (sym same_reported);
     counted = ap length keeps.names ∙ kept.counted ∙ ap put_count (sym same_reported);
     sound = subst (λ (ks : List (List ℕ)). AreSound ks e'.all) (sym keys) (subst (AreSound k.keys) (sym all) kept.sound);
     distinct = subst AreDistinct (sym keys) kept.distinct;
     few = omega (arith, ap length keys, kept.few);
-    flags = kept.flags ∙ ap length (sym all);
-    room = λ c flag. keeps.others c (kept.room c flag);
-    held = kept.held;
-    places = omega (arith, kept.places);
-    put_places = omega (arith, kept.put_places, keeps.more_puts);
-    get_places = omega (arith, kept.get_places, keeps.more_gets);
+    flags = as_many ∙ kept.flags ∙ ap length (sym all);
+    room = room;
+    held = held;
+    places = places;
+    put_places = put_places;
+    get_places = get_places;
     few_names = omega (arith, kept.few_names, ap length keeps.names);
     few_gets = omega (arith, kept.few_gets, ap length keeps.gets);
     get_keys = λ number x at. omega (arith, kept.get_keys number x (sym (ap (λ (s : List StoredOp). slice_get s number) keeps.gets) ∙ at), ap length keys);
     session_maxima = subst (λ (h : Sessions). AreSessionMaxima h maxima) (sym same_reported) kept.session_maxima;
   }
 
+  -- more room keeps the invariant
+  pub room_kept : IsKept k' e' maxima reserved reservations len
+  room_kept =
+      reserved_kept reserved reservations refl (λ c flag. keeps.others c (kept.room c flag)) kept.held
+      (omega (arith, kept.places)) (omega (arith, kept.put_places, keeps.more_puts)) (omega (arith, kept.get_places, keeps.more_gets))
+
   -- one more reservation
   pub flag_kept : (client : ℕ) → client < length e.all → get_or reserved client false ≡ false → get_or e'.room client false ≡ true → reservations + 1 ≤ k'.spare → reservations + 1 ≤ e'.more_puts → reservations + 1 ≤ e'.more_gets
       → IsKept k' e' maxima (set reserved client true) (reservations + 1) len
-  flag_kept client inside was has places put_places get_places = record {
-    limits = room_kept.limits;
-    count = room_kept.count;
-    counted = room_kept.counted;
-    sound = room_kept.sound;
-    distinct = room_kept.distinct;
-    few = room_kept.few;
-    flags = length-set reserved client true ∙ kept.flags ∙ ap length (sym all);
-    room = λ c flag. elim (at_or_other client c) [
-      | inl p ↦ subst (λ (d : ℕ). get_or e'.room d false ≡ true) p has
-      | inr p ↦ keeps.others c (kept.room c (sym (get_or-set_other reserved client c true false p) ∙ flag))
-    ];
-    held = omega (arith, kept.held, set_flag reserved client (omega (arith, kept.flags)) was);
-    places = places;
-    put_places = put_places;
-    get_places = get_places;
-    few_names = room_kept.few_names;
-    few_gets = room_kept.few_gets;
-    get_keys = room_kept.get_keys;
-    session_maxima = room_kept.session_maxima;
-  }
+  flag_kept client inside was has =
+      reserved_kept (set reserved client true) (reservations + 1) (length-set reserved client true)
+      (λ c flag. elim (at_or_other client c) [
+        | inl p ↦ subst (λ (d : ℕ). get_or e'.room d false ≡ true) p has
+        | inr p ↦ keeps.others c (kept.room c (sym (get_or-set_other reserved client c true false p) ∙ flag))
+      ])
+      (omega (arith, kept.held, set_flag reserved client (omega (arith, kept.flags)) was))
 
 -- ---- one more operation
 

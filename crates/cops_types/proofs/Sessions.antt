@@ -15,11 +15,15 @@ use Rattle.cops_types.specs.Keeping.{flag_count}
 
 -- ---- sessions as lists
 
+-- an item among `n` equal ones, or that one past the end
+pub default_of : {X : Type 0} (d : X) (n c : ℕ) → get_or (replicate n d) c d ≡ d
+default_of d zero c = refl
+default_of d (suc n) zero = refl
+default_of d (suc n) (suc c) = default_of d n c
+
 -- a list among `n` empty lists is empty
 pub none_of : {X : Type 0} (n c : ℕ) → get_or (replicate {A = List X} n []) c [] ≡ []
-none_of zero c = refl
-none_of (suc n) zero = refl
-none_of (suc n) (suc c) = none_of n c
+none_of n c = default_of [] n c
 
 pub count-none : (n : ℕ) → count_of (replicate n []) ≡ 0
 count-none n = omega (arith, sum_by-replicate (length {A = Operation}) n [])

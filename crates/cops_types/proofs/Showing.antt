@@ -3,6 +3,7 @@ use Rattle.std.proofs.Common.{◌≡◌, ℕ, zero, suc, ◌+◌, ◌<◌, ◌�
 use Rattle.std.specs.Prelude.{◌⊎◌, ◌≢◌, ◌↔◌, IfSome, IfNone}
 use Rattle.std.specs.Option.{option_and_then, option_map}
 use Rattle.std.proofs.Math.ListN.{set, get_or-map}
+use Rattle.std.proofs.Math.Nat.{eq-or-lt_of_le}
 use Rattle.std.proofs.lemmas.List.{map-set, map-append, length-map}
 use Rattle.std.proofs.lemmas.Option.{slice_get-map, get_or_from_slice_get, slice_get_within}
 use Rattle.cops_types.specs.declared.entry.StoredOp.{StoredOp}
@@ -16,20 +17,51 @@ use Rattle.cops_types.specs.declared.slot.KeptPut.{KeptPut}
 use Rattle.cops_types.specs.declared.slot.OpSlot.{OpSlot}
 use Rattle.cops_types.specs.declared.slot.OpSlot.TheVariants.{Put as PutSlot, Got as GotSlot, Sourced as SourcedSlot, Missed as MissedSlot}
 use Rattle.cops_types.specs.declared.versioned_put.VersionedPut.{VersionedPut}
-use Rattle.cops_types.specs.Entries.{EntryLists, HasSource, HasValue, IsNumbered, ListsEntries, puts_in, value_in, value_put}
+use Rattle.cops_types.specs.Entries.{HasSource, HasValue, IsNumbered, ListsEntries, puts_in, value_in, value_put}
 use Rattle.cops_types.specs.Lists.{item_at, number_at, with_item}
 use Rattle.cops_types.specs.Recorded.{AreNumbered}
 use Rattle.cops_types.specs.Slots.{AreKept, IsFrom, IsStored, IsThere, next_name, get_number_in, get_numbers_in, put_shown, source_shown, got_shown, shown, shown_by, versioned, content_of}
+use Rattle.cops_types.proofs.Joining.{get_left, get_right}
 use Rattle.cops_types.proofs.Sessions.{at_or_other}
-use Rattle.cops_types.proofs.Reporting.{item_came, item_stays, map-same}
 
 -- ---- lists
 
--- the item of a name after mapping all items
-pub item_at-map : {X Y : Type 0} (f : X → Y) (lists : List (List X)) (name : OpName) → item_at (map (map f) lists) name ≡ option_map f (item_at lists name)
-item_at-map f lists name =
-    ap (λ l. slice_get l name.index) (get_or-map (map f) lists name.client [])
-    ∙ slice_get-map f (get_or lists name.client []) name.index
+-- what a value was mapped from
+pub mapped_from : {X Y : Type 0} (f : X → Y) (o : Option X) (y : Y) → option_map f o ≡ Some y → (x : X) × (o ≡ Some x)
+mapped_from f None y is = cc
+mapped_from f (Some x) y is = (x, refl)
+
+-- functions that agree on a list's elements
+map-same : {X Y : Type 0} (f g : X → Y) (xs : List X) → ((i : ℕ) (x : X) → slice_get xs i ≡ Some x → f x ≡ g x) → map f xs ≡ map g xs
+map-same f g [] same = refl
+map-same f g (x ∷ xs) same = λ j. same zero x refl j ∷ map-same f g xs (λ i y at. same (suc i) y at) j
+
+module _ {X Y : Type 0} (f : X → Y) where
+  -- the item of a name after mapping all items
+  pub item_at-map : (lists : List (List X)) (name : OpName) → item_at (map (map f) lists) name ≡ option_map f (item_at lists name)
+  item_at-map lists name =
+      ap (λ (l : List Y). slice_get l name.index) (get_or-map (map f) lists name.client []) ∙ slice_get-map f (get_or lists name.client []) name.index
+
+  pub length-map_map : (lists : List (List X)) (client : ℕ) → length (get_or (map (map f) lists) client []) ≡ length (get_or lists client [])
+  length-map_map lists client = ap length (get_or-map (map f) lists client []) ∙ length-map (get_or lists client []) f
+
+  pub map-none : (n : ℕ) → map (map f) (replicate n []) ≡ replicate n []
+  map-none zero = refl
+  map-none (suc n) = ap (λ (l : List (List Y)). [] ∷ l) (map-none n)
+
+  -- mapping lists with one more item
+  pub map-with_item : (lists : List (List X)) (client : ℕ) (item : X) → map (map f) (with_item lists client item) ≡ with_item (map (map f) lists) client (f item)
+  map-with_item lists client item =
+      let own = get_or lists client [] in
+      map-set (map f) lists client (own ++ item ∷ [])
+      ∙ ap (set (map (map f) lists) client) (map-append f own (item ∷ []) ∙ ap (λ (l : List Y). l ++ f item ∷ []) (sym (get_or-map (map f) lists client [])))
+
+  -- a function that agrees on all items
+  pub map-same_items : (g : X → Y) (lists : List (List X)) → ((name : OpName) (x : X) → item_at lists name ≡ Some x → f x ≡ g x) → map (map f) lists ≡ map (map g) lists
+  map-same_items g lists same =
+      map-same (map f) (map g) lists (λ c s at.
+      map-same f g s (λ i x here.
+      same (record { client = c; index = i }) x (ap (λ (l : List X). slice_get l i) (get_or_from_slice_get lists c s [] at) ∙ here)))
 
 -- an item of a list with one more item was there before, or is the new one at the end
 pub slice_get-end : {X : Type 0} (xs : List X) (y : X) (i : ℕ) (x : X) → slice_get (xs ++ y ∷ []) i ≡ Some x → (slice_get xs i ≡ Some x) ⊎ ((i ≡ length xs) × (y ≡ x))
@@ -40,13 +72,10 @@ slice_get-end (z ∷ xs) y (suc i) x at = elim (slice_get-end xs y i x at) [ inl
 
 -- the item at the end
 pub end_of : {X : Type 0} (xs : List X) (y : X) → slice_get (xs ++ y ∷ []) (length xs) ≡ Some y
-end_of [] y = refl
-end_of (x ∷ xs) y = end_of xs y
+end_of xs y = get_right xs (y ∷ []) 0 (length xs) (omega arith)
 
 pub stays_left : {X : Type 0} (xs ys : List X) (i : ℕ) (x : X) → slice_get xs i ≡ Some x → slice_get (xs ++ ys) i ≡ Some x
-stays_left [] ys i x at = cc
-stays_left (y ∷ xs) ys zero x at = at
-stays_left (y ∷ xs) ys (suc i) x at = stays_left xs ys i x at
+stays_left xs ys i x at = get_left xs ys i (slice_get_within xs i x at) ∙ at
 
 -- the first list is a prefix of the second
 abbrev pub IsPrefix : {X : Type 0} → List X → List X → Type 0
@@ -64,36 +93,41 @@ item_last {X} lists client item inside =
     let own = get_or lists client [] in
     ap (λ (l : List X). slice_get l (length own)) (get_or-set_same lists client (own ++ item ∷ []) [] inside) ∙ end_of own item
 
--- an item of the lists with one more item was there before, or is the new one, at its index
-pub item_came_last : {X : Type 0} (lists : List (List X)) (client : ℕ) (item : X) → client < length lists → (name : OpName) (x : X) → item_at (with_item lists client item) name ≡ Some x
-    → (item_at lists name ≡ Some x) ⊎ ((item ≡ x) × (name.client ≡ client) × (name.index ≡ length (get_or lists client [])))
-item_came_last {X} lists client item inside name x at =
-    let own = get_or lists client [] in
-    elim (at_or_other client name.client) [
-      | inl p ↦
-          let here : get_or (with_item lists client item) name.client [] ≡ get_or lists name.client [] ++ item ∷ [] =
-          subst (λ (d : ℕ). get_or (with_item lists client item) d [] ≡ get_or lists d [] ++ item ∷ []) p (get_or-set_same lists client (own ++ item ∷ []) [] inside) in
-          elim (slice_get-end (get_or lists name.client []) item name.index x (sym (ap (λ (l : List X). slice_get l name.index) here) ∙ at)) [
-            | inl q ↦ inl q
-            | inr q ↦ inr (q.1, sym p, q.0 ∙ ap (λ (d : ℕ). length (get_or lists d [])) (sym p))
-          ]
-      | inr p ↦ inl (sym (ap (λ (l : List X). slice_get l name.index) (get_or-set_other lists client name.client (own ++ item ∷ []) [] p)) ∙ at)
-    ]
+module _ {X : Type 0} (lists : List (List X)) (client : ℕ) (item : X) (inside : client < length lists) (name : OpName) (x : X) where
+  own : client ≡ name.client → get_or (with_item lists client item) name.client [] ≡ get_or lists name.client [] ++ item ∷ []
+  own p =
+      subst (λ (d : ℕ). get_or (with_item lists client item) d [] ≡ get_or lists d [] ++ item ∷ []) p
+      (get_or-set_same lists client (get_or lists client [] ++ item ∷ []) [] inside)
+
+  other : name.client ≢ client → get_or (with_item lists client item) name.client [] ≡ get_or lists name.client []
+  other p = get_or-set_other lists client name.client (get_or lists client [] ++ item ∷ []) [] p
+
+  -- an item that was there stays
+  pub item_stays : item_at lists name ≡ Some x → item_at (with_item lists client item) name ≡ Some x
+  item_stays at =
+      elim (at_or_other client name.client) [
+        | inl p ↦ ap (λ (l : List X). slice_get l name.index) (own p) ∙ stays_left (get_or lists name.client []) (item ∷ []) name.index x at
+        | inr p ↦ ap (λ (l : List X). slice_get l name.index) (other p) ∙ at
+      ]
+
+  -- an item of the lists with one more item was there before, or is the new one, at its index
+  pub item_came_last : item_at (with_item lists client item) name ≡ Some x → (item_at lists name ≡ Some x) ⊎ ((item ≡ x) × (name.client ≡ client) × (name.index ≡ length (get_or lists client [])))
+  item_came_last at =
+      elim (at_or_other client name.client) [
+        | inl p ↦ elim (slice_get-end (get_or lists name.client []) item name.index x (sym (ap (λ (l : List X). slice_get l name.index) (own p)) ∙ at)) [
+          | inl q ↦ inl q
+          | inr q ↦ inr (q.1, sym p, q.0 ∙ ap (λ (d : ℕ). length (get_or lists d [])) (sym p))
+        ]
+        | inr p ↦ inl (sym (ap (λ (l : List X). slice_get l name.index) (other p)) ∙ at)
+      ]
 
 -- ---- slots
-
-no_items : (puts : List KeptPut) (gets : List KeptGot) (n : ℕ) → shown_by puts gets (replicate n []) ≡ replicate n []
-no_items puts gets zero = refl
-no_items puts gets (suc n) = ap (λ (l : EntryLists). [] ∷ l) (no_items puts gets n)
-
-pub shown-none : (puts : List KeptPut) (gets : List KeptGot) (slots : List (List OpSlot)) (n : ℕ) → slots ≡ replicate n [] → shown_by puts gets slots ≡ replicate n []
-shown-none puts gets slots n none = ap (shown_by puts gets) none ∙ no_items puts gets n
 
 pub item_at-shown : (puts : List KeptPut) (gets : List KeptGot) (slots : List (List OpSlot)) (name : OpName) → item_at (shown_by puts gets slots) name ≡ option_map (shown puts gets) (item_at slots name)
 item_at-shown puts gets slots name = item_at-map (shown puts gets) slots name
 
 pub length-shown : (puts : List KeptPut) (gets : List KeptGot) (slots : List (List OpSlot)) (client : ℕ) → length (get_or (shown_by puts gets slots) client []) ≡ length (get_or slots client [])
-length-shown puts gets slots client = ap length (get_or-map (map (shown puts gets)) slots client []) ∙ length-map (get_or slots client []) (shown puts gets)
+length-shown puts gets slots client = length-map_map (shown puts gets) slots client
 
 -- an index within a list has an item
 pub found : {X : Type 0} (xs : List X) (i : ℕ) → i < length xs → (x : X) × (slice_get xs i ≡ Some x)
@@ -110,21 +144,11 @@ module _ (puts puts' : List KeptPut) (gets gets' : List KeptGot) (more_puts : Is
   shown-same (MissedSlot key) there = refl
 
   module _ (slots : List (List OpSlot)) (kept : AreKept puts gets slots) (client : ℕ) (slot : OpSlot) (inside : client < length slots) where
-    shown_by-same : shown_by puts' gets' slots ≡ shown_by puts gets slots
-    shown_by-same =
-        map-same (map (shown puts' gets')) (map (shown puts gets)) slots (λ c s at.
-        map-same (shown puts' gets') (shown puts gets) s (λ i x here.
-        shown-same x (kept.there (record { client = c; index = i }) x (ap (λ (l : List OpSlot). slice_get l i) (get_or_from_slice_get slots c s [] at) ∙ here))))
-
     -- the client gains the entry of the slot
     shown_by-more : (entry : StoredOp) → shown puts' gets' slot ≡ entry → shown_by puts' gets' (with_item slots client slot) ≡ with_item (shown_by puts gets slots) client entry
     shown_by-more entry is =
-        let f = shown puts' gets' in
-        let s = get_or slots client [] in
-        map-set (map f) slots client (s ++ slot ∷ [])
-        ∙ ap (set (map (map f) slots) client) (map-append f s (slot ∷ []) ∙ ap (λ (l : List StoredOp). l ++ f slot ∷ []) (sym (get_or-map (map f) slots client [])))
-        ∙ ap (λ (all : EntryLists). with_item all client (f slot)) shown_by-same
-        ∙ ap (with_item (shown_by puts gets slots) client) is
+        let same = map-same_items (shown puts' gets') (shown puts gets) slots (λ name s at. shown-same s (kept.there name s at)) in
+        map-with_item (shown puts' gets') slots client slot ∙ (λ j. with_item (same j) client (is j))
 
     -- the invariant holds with one more slot
     kept_more : IsThere (length puts') (length gets') slot
@@ -133,9 +157,9 @@ module _ (puts puts' : List KeptPut) (gets gets' : List KeptGot) (more_puts : Is
         → ((n : ℕ) → n < length gets' → (n < length gets) ⊎ (slot ≡ GotSlot n)) → ((n : ℕ) → slot ≡ GotSlot n → length gets ≤ n)
         → AreKept puts' gets' (with_item slots client slot)
     kept_more fits named last newer next = record {
-      there = λ name s at. elim (item_came slots client slot inside name s at) [
+      there = λ name s at. elim (item_came_last slots client slot inside name s at) [
         | inl p ↦ still s (kept.there name s p)
-        | inr p ↦ subst (IsThere (length puts') (length gets')) p fits
+        | inr p ↦ subst (IsThere (length puts') (length gets')) p.0 fits
       ];
       named = λ n p at. elim (named n p at) [
         | inl was ↦ item_stays slots client slot inside p.name (PutSlot n) (kept.named n p was)
@@ -262,85 +286,78 @@ pub names_versioned : (puts : List KeptPut) → map (λ (p : VersionedPut). p.na
 names_versioned [] = refl
 names_versioned (p ∷ puts) = ap (λ (l : List OpName). p.name ∷ l) (names_versioned puts)
 
--- entries that do not stand for a put
-no_sourced_put : (number : ℕ) (o : Option KeptPut) (key : ℕ) (value : Option (List ℕ)) (version : ℕ) → source_shown number o ≡ Put key value version → ⊥
-no_sourced_put number (Some p) key value version is = cc
-no_sourced_put number None key value version is = cc
-
-no_got_put : (o : Option KeptGot) (key : ℕ) (value : Option (List ℕ)) (version : ℕ) → got_shown o ≡ Put key value version → ⊥
-no_got_put (Some g) key value version is = cc
-no_got_put None key value version is = cc
-
-module _ (puts : List KeptPut) (gets : List KeptGot) where
+module _ (puts : List KeptPut) (gets : List KeptGot) (slots : List (List OpSlot)) (kept : AreKept puts gets slots) where
   -- a slot that stands for a put is a put's slot
-  slot_of_put : (o : Option OpSlot) (key : ℕ) (value : Option (List ℕ)) (version : ℕ) → option_map (shown puts gets) o ≡ Some (Put key value version) → (n : ℕ) × (o ≡ Some (PutSlot n))
-  slot_of_put None key value version is = cc
-  slot_of_put (Some (PutSlot n)) key value version is = (n, refl)
-  slot_of_put (Some (SourcedSlot n)) key value version is = let e : source_shown n (slice_get puts n) ≡ Put key value version = cc in absurd (no_sourced_put n (slice_get puts n) key value version e)
-  slot_of_put (Some (GotSlot n)) key value version is = let e : got_shown (slice_get gets n) ≡ Put key value version = cc in absurd (no_got_put (slice_get gets n) key value version e)
-  slot_of_put (Some (MissedSlot k)) key value version is = cc
+  slot_of_put : (name : OpName) (o : Option OpSlot) → item_at slots name ≡ o → (key : ℕ) (value : Option (List ℕ)) (version : ℕ) → option_map (shown puts gets) o ≡ Some (Put key value version)
+      → (n : ℕ) × (o ≡ Some (PutSlot n))
+  slot_of_put name None at key value version is = cc
+  slot_of_put name (Some (PutSlot n)) at key value version is = (n, refl)
+  slot_of_put name (Some (SourcedSlot n)) at key value version is =
+      let p = found puts n (kept.there name (SourcedSlot n) at) in
+      let e : Some (source_shown n (Some p.0)) ≡ Some (Put key value version) = sym (ap (λ (o : Option KeptPut). Some (source_shown n o)) p.1) ∙ is in
+      absurd cc
+  slot_of_put name (Some (GotSlot n)) at key value version is =
+      let g = found gets n (kept.there name (GotSlot n) at) in
+      let e : Some (got_shown (Some g.0)) ≡ Some (Put key value version) = sym (ap (λ (o : Option KeptGot). Some (got_shown o)) g.1) ∙ is in
+      absurd cc
+  slot_of_put name (Some (MissedSlot k)) at key value version is = cc
 
   -- without a put's slot there is no put's entry
-  pub no_put_shown : (slots : List (List OpSlot)) (name : OpName) → ((n : ℕ) → item_at slots name ≡ Some (PutSlot n) → ⊥)
+  no_put_shown : (name : OpName) → ((n : ℕ) → item_at slots name ≡ Some (PutSlot n) → ⊥)
       → (key version : ℕ) (value : Option (List ℕ)) → item_at (shown_by puts gets slots) name ≡ Some (Put key value version) → ⊥
-  no_put_shown slots name none key version value at = let slot = slot_of_put (item_at slots name) key value version (sym (item_at-shown puts gets slots name) ∙ at) in none slot.0 slot.1
+  no_put_shown name none key version value at = let slot = slot_of_put name (item_at slots name) refl key value version (sym (item_at-shown puts gets slots name) ∙ at) in none slot.0 slot.1
 
-  module _ (slots : List (List OpSlot)) (kept : AreKept puts gets slots) where
-    versioned_at : (n : ℕ) (p : KeptPut) (d : VersionedPut) → slice_get puts n ≡ Some p → get_or (map versioned puts) n d ≡ versioned p
-    versioned_at n p d at = get_or_from_slice_get (map versioned puts) n (versioned p) d (slice_get-map versioned puts n ∙ ap (option_map versioned) at)
+  versioned_at : (n : ℕ) (p : KeptPut) (d : VersionedPut) → slice_get puts n ≡ Some p → get_or (map versioned puts) n d ≡ versioned p
+  versioned_at n p d at = get_or_from_slice_get (map versioned puts) n (versioned p) d (slice_get-map versioned puts n ∙ ap (option_map versioned) at)
 
-    -- the puts are exactly the entries of puts
-    pub lists_entries : ListsEntries (shown_by puts gets slots) (map versioned puts)
-    lists_entries = record {
-      members = λ p. (
-        (λ there.
-            let inside : there.0 < length puts = omega (arith, there.1, length-map puts versioned) in
-            let q = found puts there.0 inside in
-            let same : versioned q.0 ≡ p = sym (versioned_at there.0 q.0 p q.1) ∙ there.2 in
-            subst (λ (r : VersionedPut). (key : ℕ) × (value : Option (List ℕ)) × (item_at (shown_by puts gets slots) r.name ≡ Some (Put key value r.version))) same
-            (q.0.key, content_of q.0.has_value q.0.value, put_at puts gets slots kept there.0 q.0 q.1)),
-        (λ there.
-            let shown_there = sym (item_at-shown puts gets slots p.name) ∙ there.2 in
-            let slot = slot_of_put (item_at slots p.name) there.0 there.1 p.version shown_there in
-            let q = kept.back p.name slot.0 slot.1 in
-            let both : Some (Put q.0.key (content_of q.0.has_value q.0.value) q.0.version) ≡ Some (Put there.0 there.1 p.version) =
-            sym (ap (λ (o : Option KeptPut). Some (put_shown o)) q.1) ∙ sym (ap (option_map (shown puts gets)) slot.1) ∙ shown_there in
-            let version : q.0.version ≡ p.version = cc in
-            let inside : slot.0 < length (map versioned puts) = omega (arith, slice_get_within puts slot.0 q.0 q.1, length-map puts versioned) in
-            let same : versioned q.0 ≡ p = (λ j. record { version = version j; name = q.2 j }) in
-            (slot.0, inside, versioned_at slot.0 q.0 p q.1 ∙ same)),
-      );
-      once = λ i j d less inside same.
-          let there : j < length puts = omega (arith, inside, length-map puts versioned) in
-          let p = found puts i (omega (arith, less, there)) in
-          let q = found puts j there in
-          let names : p.0.name ≡ q.0.name = ap (λ (r : VersionedPut). r.name) (sym (versioned_at i p.0 d p.1)) ∙ same ∙ ap (λ (r : VersionedPut). r.name) (versioned_at j q.0 d q.1) in
-          let both : Some (PutSlot i) ≡ Some (PutSlot j) = sym (kept.named i p.0 p.1) ∙ ap (item_at slots) names ∙ kept.named j q.0 q.1 in
-          let equal : i ≡ j = cc in
-          omega (arith, less, equal);
-    }
+  -- the puts are exactly the entries of puts
+  pub lists_entries : ListsEntries (shown_by puts gets slots) (map versioned puts)
+  lists_entries = record {
+    members = λ p. (
+      (λ there.
+          let inside : there.0 < length puts = omega (arith, there.1, length-map puts versioned) in
+          let q = found puts there.0 inside in
+          let same : versioned q.0 ≡ p = sym (versioned_at there.0 q.0 p q.1) ∙ there.2 in
+          subst (λ (r : VersionedPut). (key : ℕ) × (value : Option (List ℕ)) × (item_at (shown_by puts gets slots) r.name ≡ Some (Put key value r.version))) same
+          (q.0.key, content_of q.0.has_value q.0.value, put_at puts gets slots kept there.0 q.0 q.1)),
+      (λ there.
+          let shown_there = sym (item_at-shown puts gets slots p.name) ∙ there.2 in
+          let slot = slot_of_put p.name (item_at slots p.name) refl there.0 there.1 p.version shown_there in
+          let q = kept.back p.name slot.0 slot.1 in
+          let both : Some (Put q.0.key (content_of q.0.has_value q.0.value) q.0.version) ≡ Some (Put there.0 there.1 p.version) =
+          sym (ap (λ (o : Option KeptPut). Some (put_shown o)) q.1) ∙ sym (ap (option_map (shown puts gets)) slot.1) ∙ shown_there in
+          let version : q.0.version ≡ p.version = cc in
+          let inside : slot.0 < length (map versioned puts) = omega (arith, slice_get_within puts slot.0 q.0 q.1, length-map puts versioned) in
+          let same : versioned q.0 ≡ p = (λ j. record { version = version j; name = q.2 j }) in
+          (slot.0, inside, versioned_at slot.0 q.0 p q.1 ∙ same)),
+    );
+    once = λ i j d less inside same.
+        let there : j < length puts = omega (arith, inside, length-map puts versioned) in
+        let p = found puts i (omega (arith, less, there)) in
+        let q = found puts j there in
+        let names : p.0.name ≡ q.0.name = ap (λ (r : VersionedPut). r.name) (sym (versioned_at i p.0 d p.1)) ∙ same ∙ ap (λ (r : VersionedPut). r.name) (versioned_at j q.0 d q.1) in
+        let both : Some (PutSlot i) ≡ Some (PutSlot j) = sym (kept.named i p.0 p.1) ∙ ap (item_at slots) names ∙ kept.named j q.0 q.1 in
+        let equal : i ≡ j = cc in
+        omega (arith, less, equal);
+  }
 
 module _ (puts : List KeptPut) (gets : List KeptGot) (slots : List (List OpSlot)) (kept : AreKept puts gets slots) (name : OpName) where
   -- the number in a name's slot
-  module _ (number : Option ℕ) (reports : (n : ℕ) → (number ≡ Some n) ↔ (item_at slots name ≡ Some (PutSlot n))) where
-    pub numbers_put : (n : ℕ) → (number ≡ Some n) ↔ (slice_get (map (λ (p : KeptPut). p.name) puts) n ≡ Some name)
-    numbers_put n = ((λ is. named_at puts gets slots kept name n ((reports n).0 is)), (λ at. (reports n).1 (put_named puts gets slots kept name n at)))
+  pub numbers_put : (number : Option ℕ) → ((n : ℕ) → (number ≡ Some n) ↔ (item_at slots name ≡ Some (PutSlot n)))
+      → (n : ℕ) → (number ≡ Some n) ↔ (slice_get (map (λ (p : KeptPut). p.name) puts) n ≡ Some name)
+  numbers_put number reports n = ((λ is. named_at puts gets slots kept name n ((reports n).0 is)), (λ at. (reports n).1 (put_named puts gets slots kept name n at)))
 
-    pub number_is_put : IfSome number (λ _. (key version : ℕ) × (value : Option (List ℕ)) × (item_at (shown_by puts gets slots) name ≡ Some (Put key value version)))
-    number_is_put = reported number (λ n is. put_of puts gets slots kept name n ((reports n).0 is))
-      where
-        reported : (o : Option ℕ) → ((n : ℕ) → o ≡ Some n → (key version : ℕ) × (value : Option (List ℕ)) × (item_at (shown_by puts gets slots) name ≡ Some (Put key value version)))
-            → IfSome o (λ _. (key version : ℕ) × (value : Option (List ℕ)) × (item_at (shown_by puts gets slots) name ≡ Some (Put key value version)))
-        reported (Some n) so = so n refl
-        reported None so = tt
+  -- the number is that of a put's entry
+  pub number_is_put : (number : Option ℕ) → ((n : ℕ) → (number ≡ Some n) ↔ (item_at slots name ≡ Some (PutSlot n)))
+      → IfSome number (λ _. (key version : ℕ) × (value : Option (List ℕ)) × (item_at (shown_by puts gets slots) name ≡ Some (Put key value version)))
+  number_is_put (Some n) reports = put_of puts gets slots kept name n ((reports n).0 refl)
+  number_is_put None reports = tt
 
-    pub no_number_no_put : IfNone number ((key version : ℕ) (value : Option (List ℕ)) → item_at (shown_by puts gets slots) name ≢ Some (Put key value version))
-    no_number_no_put = reported number (λ none. no_put_shown puts gets slots name (λ n at. let gone : None ≡ Some n = none ∙ (reports n).1 at in cc))
-      where
-        reported : (o : Option ℕ) → (None ≡ o → (key version : ℕ) (value : Option (List ℕ)) → item_at (shown_by puts gets slots) name ≢ Some (Put key value version))
-            → IfNone o ((key version : ℕ) (value : Option (List ℕ)) → item_at (shown_by puts gets slots) name ≢ Some (Put key value version))
-        reported (Some n) so = tt
-        reported None so = so refl
+  -- without a number there is no put's entry
+  pub no_number_no_put : (number : Option ℕ) → ((n : ℕ) → (number ≡ Some n) ↔ (item_at slots name ≡ Some (PutSlot n)))
+      → IfNone number ((key version : ℕ) (value : Option (List ℕ)) → item_at (shown_by puts gets slots) name ≢ Some (Put key value version))
+  no_number_no_put (Some n) reports = tt
+  no_number_no_put None reports = no_put_shown puts gets slots kept name (λ n at. let gone : None ≡ Some n = (reports n).1 at in cc)
 
   pub names_source : (number : Option ℕ) → IfSome number (λ n. item_at slots name ≡ Some (SourcedSlot n))
       → IfSome number (λ n. (put : OpName) × (slice_get (map (λ (p : KeptPut). p.name) puts) n ≡ Some put)
@@ -352,18 +369,6 @@ module _ (puts : List KeptPut) (gets : List KeptGot) (slots : List (List OpSlot)
 
 abbrev pub entries_of : List KeptGot → List StoredOp
 entries_of gets = map (λ (g : KeptGot). got_shown (Some g)) gets
-
-got_entry : (o : Option KeptGot) (key version : ℕ) (value : Option (List ℕ)) → got_shown o ≡ Got key value version → option_map (λ (g : KeptGot). got_shown (Some g)) o ≡ Some (Got key value version)
-got_entry (Some g) key version value is = ap (λ (e : StoredOp). Some e) is
-got_entry None key version value is = cc
-
-no_put_got : (o : Option KeptPut) (key : ℕ) (value : Option (List ℕ)) (version : ℕ) → put_shown o ≡ Got key value version → ⊥
-no_put_got (Some p) key value version is = cc
-no_put_got None key value version is = cc
-
-no_sourced_got : (number : ℕ) (o : Option KeptPut) (key : ℕ) (value : Option (List ℕ)) (version : ℕ) → source_shown number o ≡ Got key value version → ⊥
-no_sourced_got number (Some p) key value version is = cc
-no_sourced_got number None key value version is = cc
 
 -- the slot of a number
 numbered_slot : (o : Option OpSlot) (n : ℕ) → option_and_then get_number_in o ≡ Some n → o ≡ Some (GotSlot n)
@@ -389,37 +394,33 @@ flat_number (Some s) = refl
 number_of_slot : (slots : List (List OpSlot)) (name : OpName) → number_at (get_numbers_in slots) name ≡ option_and_then get_number_in (item_at slots name)
 number_of_slot slots name = ap (option_and_then (λ (n : Option ℕ). n)) (item_at-map get_number_in slots name) ∙ flat_number (item_at slots name)
 
-slot_there : (puts : List KeptPut) (gets : List KeptGot) (o : Option OpSlot) (entry : StoredOp) → option_map (shown puts gets) o ≡ Some entry → (s : OpSlot) × (o ≡ Some s)
-slot_there puts gets None entry is = cc
-slot_there puts gets (Some s) entry is = (s, refl)
-
--- a number that is not above another is below it or the same
-under_or_at : (n m : ℕ) → n < m + 1 → (n < m) ⊎ (n ≡ m)
-under_or_at zero zero lt = inr refl
-under_or_at zero (suc m) lt = inl (omega arith)
-under_or_at (suc n) zero lt = absurd (omega (arith, lt))
-under_or_at (suc n) (suc m) lt = elim (under_or_at n m (omega (arith, lt))) [ inl p ↦ inl (omega (arith, p)) | inr p ↦ inr (ap suc p) ]
-
-module _ (puts : List KeptPut) (gets : List KeptGot) where
+module _ (puts : List KeptPut) (gets : List KeptGot) (slots : List (List OpSlot)) (kept : AreKept puts gets slots) where
   -- a slot that stands for such a get is its slot
-  got_slot_of : (o : Option OpSlot) (key version : ℕ) (value : Option (List ℕ)) → option_map (shown puts gets) o ≡ Some (Got key value version) → (n : ℕ) × (o ≡ Some (GotSlot n))
-  got_slot_of None key version value is = cc
-  got_slot_of (Some (PutSlot n)) key version value is = let e : put_shown (slice_get puts n) ≡ Got key value version = cc in absurd (no_put_got (slice_get puts n) key value version e)
-  got_slot_of (Some (SourcedSlot n)) key version value is = let e : source_shown n (slice_get puts n) ≡ Got key value version = cc in absurd (no_sourced_got n (slice_get puts n) key value version e)
-  got_slot_of (Some (GotSlot n)) key version value is = (n, refl)
-  got_slot_of (Some (MissedSlot k)) key version value is = cc
+  got_slot_of : (name : OpName) (o : Option OpSlot) → item_at slots name ≡ o → (key version : ℕ) (value : Option (List ℕ)) → option_map (shown puts gets) o ≡ Some (Got key value version)
+      → (n : ℕ) × (o ≡ Some (GotSlot n))
+  got_slot_of name None at key version value is = cc
+  got_slot_of name (Some (PutSlot n)) at key version value is =
+      let p = found puts n (kept.there name (PutSlot n) at) in
+      let e : Some (put_shown (Some p.0)) ≡ Some (Got key value version) = sym (ap (λ (o : Option KeptPut). Some (put_shown o)) p.1) ∙ is in
+      absurd cc
+  got_slot_of name (Some (SourcedSlot n)) at key version value is =
+      let p = found puts n (kept.there name (SourcedSlot n) at) in
+      let e : Some (source_shown n (Some p.0)) ≡ Some (Got key value version) = sym (ap (λ (o : Option KeptPut). Some (source_shown n o)) p.1) ∙ is in
+      absurd cc
+  got_slot_of name (Some (GotSlot n)) at key version value is = (n, refl)
+  got_slot_of name (Some (MissedSlot k)) at key version value is = cc
 
   -- each such get has a number
-  pub kept_gets : (slots : List (List OpSlot)) (name : OpName) (key version : ℕ) (value : Option (List ℕ)) → item_at (shown_by puts gets slots) name ≡ Some (Got key value version)
+  pub kept_gets : (name : OpName) (key version : ℕ) (value : Option (List ℕ)) → item_at (shown_by puts gets slots) name ≡ Some (Got key value version)
       → (n : ℕ) × (slice_get (entries_of gets) n ≡ Some (Got key value version))
-  kept_gets slots name key version value at =
+  kept_gets name key version value at =
       let shown_there = sym (item_at-shown puts gets slots name) ∙ at in
-      let slot = got_slot_of (item_at slots name) key version value shown_there in
-      let both : Some (got_shown (slice_get gets slot.0)) ≡ Some (Got key value version) = sym (ap (option_map (shown puts gets)) slot.1) ∙ shown_there in
-      let e : got_shown (slice_get gets slot.0) ≡ Got key value version = cc in
-      (slot.0, slice_get-map (λ (g : KeptGot). got_shown (Some g)) gets slot.0 ∙ got_entry (slice_get gets slot.0) key version value e)
+      let slot = got_slot_of name (item_at slots name) refl key version value shown_there in
+      let g = found gets slot.0 (kept.there name (GotSlot slot.0) slot.1) in
+      let both = sym (ap (λ (o : Option KeptGot). Some (got_shown o)) g.1) ∙ sym (ap (option_map (shown puts gets)) slot.1) ∙ shown_there in
+      (slot.0, slice_get-map (λ (g : KeptGot). got_shown (Some g)) gets slot.0 ∙ ap (option_map (λ (g : KeptGot). got_shown (Some g))) g.1 ∙ both)
 
-  module _ (slots : List (List OpSlot)) (kept : AreKept puts gets slots) (name : OpName) where
+  module _ (name : OpName) where
     -- the number in a name's slot
     pub numbers_get : (number : Option ℕ) → ((n : ℕ) → (number ≡ Some n) ↔ (item_at slots name ≡ Some (GotSlot n)))
         → IfSome number (λ n. (key version : ℕ) × (value : Option (List ℕ)) × (item_at (shown_by puts gets slots) name ≡ Some (Got key value version))
@@ -440,7 +441,7 @@ module _ (puts : List KeptPut) (gets : List KeptGot) where
         → IfNone number ((key version : ℕ) (value : Option (List ℕ)) → item_at (shown_by puts gets slots) name ≢ Some (Got key value version))
     no_number_no_get (Some n) reports = tt
     no_number_no_get None reports = λ key version value at.
-        let slot = got_slot_of (item_at slots name) key version value (sym (item_at-shown puts gets slots name) ∙ at) in
+        let slot = got_slot_of name (item_at slots name) refl key version value (sym (item_at-shown puts gets slots name) ∙ at) in
         let gone : None ≡ Some slot.0 = (reports slot.0).1 slot.1 in
         cc
 
@@ -449,25 +450,24 @@ module _ (puts : List KeptPut) (gets : List KeptGot) where
     reports_number number reports = reported_number number (item_at slots name) reports ∙ sym (number_of_slot slots name)
 
   -- the numbers of these gets
-  module _ (slots : List (List OpSlot)) (kept : AreKept puts gets slots) where
-    slot_of : (name : OpName) (n : ℕ) → number_at (get_numbers_in slots) name ≡ Some n → item_at slots name ≡ Some (GotSlot n)
-    slot_of name n is = numbered_slot (item_at slots name) n (sym (number_of_slot slots name) ∙ is)
+  slot_of : (name : OpName) (n : ℕ) → number_at (get_numbers_in slots) name ≡ Some n → item_at slots name ≡ Some (GotSlot n)
+  slot_of name n is = numbered_slot (item_at slots name) n (sym (number_of_slot slots name) ∙ is)
 
-    pub are_numbered : AreNumbered (get_numbers_in slots) (length (entries_of gets))
-    are_numbered =
-        let count : length (entries_of gets) ≡ length gets = length-map gets (λ (g : KeptGot). got_shown (Some g)) in
-        record {
-          within = λ name n is. omega (arith, kept.there name (GotSlot n) (slot_of name n is), count);
-          each = λ n within. let name = kept.each n (omega (arith, within, count)) in (name.0, number_of_slot slots name.0 ∙ ap (option_and_then get_number_in) name.1);
-          once = λ a b n is also. kept.once a b n (slot_of a n is) (slot_of b n also);
-          rising = λ a b m n same before is also. kept.rising a b m n same before (slot_of a m is) (slot_of b n also);
-        }
+  pub are_numbered : AreNumbered (get_numbers_in slots) (length (entries_of gets))
+  are_numbered =
+      let count : length (entries_of gets) ≡ length gets = length-map gets (λ (g : KeptGot). got_shown (Some g)) in
+      record {
+        within = λ name n is. omega (arith, kept.there name (GotSlot n) (slot_of name n is), count);
+        each = λ n within. let name = kept.each n (omega (arith, within, count)) in (name.0, number_of_slot slots name.0 ∙ ap (option_and_then get_number_in) name.1);
+        once = λ a b n is also. kept.once a b n (slot_of a n is) (slot_of b n also);
+        rising = λ a b m n same before is also. kept.rising a b m n same before (slot_of a m is) (slot_of b n also);
+      }
 
 -- each slot keeps its number when one more is added
 pub numbers_stay : (puts : List KeptPut) (gets : List KeptGot) (slots : List (List OpSlot)) (client : ℕ) (slot : OpSlot) → client < length slots → (name : OpName) (entry : StoredOp)
     → item_at (shown_by puts gets slots) name ≡ Some entry → number_at (get_numbers_in (with_item slots client slot)) name ≡ number_at (get_numbers_in slots) name
 numbers_stay puts gets slots client slot inside name entry at =
-    let own = slot_there puts gets (item_at slots name) entry (sym (item_at-shown puts gets slots name) ∙ at) in
+    let own = mapped_from (shown puts gets) (item_at slots name) entry (sym (item_at-shown puts gets slots name) ∙ at) in
     number_of_slot (with_item slots client slot) name ∙ ap (option_and_then get_number_in) (item_stays slots client slot inside name own.0 own.1 ∙ sym own.1) ∙ sym (number_of_slot slots name)
 
 -- ---- one more operation
@@ -504,7 +504,7 @@ module _ (puts : List KeptPut) (gets : List KeptGot) (slots : List (List OpSlot)
       let got = s.0 in
       rw (s.2, s.3, s.4) (with_slot puts puts gets (gets ++ got ∷ []) (prefix_same puts) (prefix_more gets got) slots kept client (GotSlot (length gets)) inside
       (Got key value version) (ap got_shown (end_of gets got) ∙ s.1) (omega (arith, length-append gets (got ∷ []))) (λ n p there. inl there) (λ n is. cc)
-      (λ n within. elim (under_or_at n (length gets) (omega (arith, within, length-append gets (got ∷ [])))) [ inl p ↦ inl p | inr p ↦ inr (ap (λ (k : ℕ). GotSlot k) (sym p)) ])
+      (λ n within. let le : n ≤ length gets = omega (arith, within, length-append gets (got ∷ [])) in elim (eq-or-lt_of_le le) [ inl same ↦ inr (ap (λ (k : ℕ). GotSlot k) (sym same)) | inr lower ↦ inl lower ])
       (λ n is. let e : length gets ≡ n = cc in omega (arith, e)))
   stored (Sourced key put version) puts' gets' slot numbered source s =
       let found = sourced puts gets slots kept put key version numbered source in

@@ -14,11 +14,12 @@ use Rattle.cops_types.specs.declared.entry.StoredOp.TheVariants.{Put, Got, Sourc
 use Rattle.cops_types.specs.Lists.{item_at, number_at}
 use Rattle.cops_types.specs.Histories.{IsNamed, Puts, PutsVersion, SourceStep, op_at, Operation, write, read, missed}
 use Rattle.cops_types.specs.Operations.{GetsVersion, key_of}
-use Rattle.cops_types.specs.Entries.{EntryLists, AreSound, IsSound, ListsEntries, referred, value_in, value_put, reported, reported_by, key_number_of}
+use Rattle.cops_types.specs.Entries.{EntryLists, AreSound, ListsEntries, referred, value_put, reported, reported_by, key_number_of}
 use Rattle.cops_types.specs.declared.versioned_put.VersionedPut.{VersionedPut}
 use Rattle.cops_types.specs.KeySets.{AreDistinct}
 use Rattle.cops_types.specs.PutLists.{AreAllPuts}
 use Rattle.cops_types.proofs.Reporting.{op_at-reported}
+use Rattle.cops_types.proofs.Showing.{mapped_from}
 
 key_reported : (keys : List (List ℕ)) (all : EntryLists) (e : StoredOp) → key_of (reported keys all e) ≡ get_or keys (key_number_of e) []
 key_reported keys all (Put key value version) = refl
@@ -41,60 +42,34 @@ module _ (keys : List (List ℕ)) (all : EntryLists) (name : OpName) where
       ap (slice_get keys) is ∙ slice_get-get_or keys (key_number_of e) [] (sound name e (sym at)).key ∙ ap Some (sym (key_reported keys all e))
       ∙ ap (option_map key_of) (reported_as e (reported keys all e) at refl)
 
-  -- an entry that is no put stands for no put
-  pub no_put : (e : StoredOp) → Some e ≡ item_at all name → ((key : ℕ) (value : Option (List ℕ)) (version : ℕ) → e ≡ Put key value version → ⊥) → (version : ℕ) → ¬ PutsVersion (reported_by keys all) name version
-  no_put (Put key value own) at not version puts = not key value own refl
-  no_put (Got key value own) at not version puts = let both = reported_as (Got key value own) _ at refl ∙ puts.2 in cc
-  no_put (Sourced key put own) at not version puts = let both = reported_as (Sourced key put own) _ at refl ∙ puts.2 in cc
-  no_put (Missed key) at not version puts = let both = reported_as (Missed key) _ at refl ∙ puts.2 in cc
-
-  -- an entry that is no get which returned something stands for no such get
-  pub no_got : (e : StoredOp) → Some e ≡ item_at all name → ((key : ℕ) (value : Option (List ℕ)) (version : ℕ) → e ≡ Got key value version → ⊥) → ((key : ℕ) (put : NumberedPut) (version : ℕ) → e ≡ Sourced key put version → ⊥)
-      → (version : ℕ) → ¬ GetsVersion (reported_by keys all) name version
-  no_got (Put key value own) at not nor version gets = let both = reported_as (Put key value own) _ at refl ∙ gets.2 in cc
-  no_got (Got key value own) at not nor version gets = not key value own refl
-  no_got (Sourced key put own) at not nor version gets = nor key put own refl
-  no_got (Missed key) at not nor version gets = let both = reported_as (Missed key) _ at refl ∙ gets.2 in cc
-
-  -- like the lemma above, for a reference
+  -- a reference to an entry that is no put stands for no put
   pub no_put_there : (e : StoredOpRef) → Some (referred e) ≡ item_at all name → ((key : ℕ) (value : Option (Bor Value)) (version : Bor Version) → e ≡ PutRef key value version → ⊥)
       → (version : ℕ) → ¬ PutsVersion (reported_by keys all) name version
-  no_put_there (PutRef key value own) at not = absurd (not key value own refl)
-  no_put_there (GotRef key value own) at not = no_put (Got key (option_copied value) own.now) at (λ k v w e. cc)
-  no_put_there (SourcedRef key put value own) at not = no_put (Sourced key put own.now) at (λ k v w e. cc)
-  no_put_there (MissedRef key) at not = no_put (Missed key) at (λ k v w e. cc)
+  no_put_there (PutRef key value own) at not version puts = not key value own refl
+  no_put_there (GotRef key value own) at not version puts = let both = reported_as (Got key (option_copied value) own.now) _ at refl ∙ puts.2 in cc
+  no_put_there (SourcedRef key put value own) at not version puts = let both = reported_as (Sourced key put own.now) _ at refl ∙ puts.2 in cc
+  no_put_there (MissedRef key) at not version puts = let both = reported_as (Missed key) _ at refl ∙ puts.2 in cc
 
+  -- a reference to an entry that is no get which returned something stands for no such get
   pub no_got_there : (e : StoredOpRef) → Some (referred e) ≡ item_at all name → ((key : ℕ) (value : Option (Bor Value)) (version : Bor Version) → e ≡ GotRef key value version → ⊥)
       → ((key : ℕ) (put : NumberedPut) (value : Option (Bor Value)) (version : Bor Version) → e ≡ SourcedRef key put value version → ⊥) → (version : ℕ) → ¬ GetsVersion (reported_by keys all) name version
-  no_got_there (PutRef key value own) at not nor = no_got (Put key (option_copied value) own.now) at (λ k v w e. cc) (λ k p w e. cc)
-  no_got_there (GotRef key value own) at not nor = absurd (not key value own refl)
-  no_got_there (SourcedRef key put value own) at not nor = absurd (nor key put value own refl)
-  no_got_there (MissedRef key) at not nor = no_got (Missed key) at (λ k v w e. cc) (λ k p w e. cc)
+  no_got_there (PutRef key value own) at not nor version gets = let both = reported_as (Put key (option_copied value) own.now) _ at refl ∙ gets.2 in cc
+  no_got_there (GotRef key value own) at not nor version gets = not key value own refl
+  no_got_there (SourcedRef key put value own) at not nor version gets = nor key put value own refl
+  no_got_there (MissedRef key) at not nor version gets = let both = reported_as (Missed key) _ at refl ∙ gets.2 in cc
 
--- an entry that names its source stands for a get of what that put wrote
-module _ (keys : List (List ℕ)) (all : EntryLists) (put : NumberedPut) (number : ℕ) (value : Option (List ℕ)) (version : ℕ) (at : item_at all put.name ≡ Some (Put number value version)) where
-  pub named_reported : (key : List ℕ) → get_or keys number [] ≡ key → reported keys all (Sourced number put version) ≡ read key value version
-  named_reported key is = λ j. read (is j) (ap value_in at j) version
-
-  pub named_sound : AreSound keys all → IsSound keys all (Sourced number put version)
-  named_sound sound = record {
-    key = (sound put.name (Put number value version) at).key;
-    source = at ∙ ap (λ (v : Option (List ℕ)). Some (Put number v version)) (sym (ap value_in at));
-  }
-
--- an entry that stands for a put of the key of that number
-put_entry : (keys : List (List ℕ)) (all : EntryLists) (key : ℕ) (value : Option (List ℕ)) (version : ℕ) → AreDistinct keys → key < length keys
-    → (found : Option StoredOp) → ((e : StoredOp) → found ≡ Some e → key_number_of e < length keys) → option_map (reported keys all) found ≡ Some (write (get_or keys key []) value version) → found ≡ Some (Put key value version)
-put_entry keys all key value version distinct inside None numbered is = cc
-put_entry keys all key value version distinct inside (Some (Put k v w)) numbered is =
-    let same : get_or keys k [] ≡ get_or keys key [] = cc in
-    let number : k ≡ key = distinct k key (get_or keys k []) (slice_get-get_or keys k [] (numbered (Put k v w) refl)) (slice_get-get_or keys key [] inside ∙ ap Some (sym same)) in
-    let values : v ≡ value = cc in
-    let versions : w ≡ version = cc in
-    λ j. Some (Put (number j) (values j) (versions j))
-put_entry keys all key value version distinct inside (Some (Got k v w)) numbered is = cc
-put_entry keys all key value version distinct inside (Some (Sourced k p w)) numbered is = cc
-put_entry keys all key value version distinct inside (Some (Missed k)) numbered is = cc
+-- an entry that stands for a put is a put's entry
+entry_of_put : (keys : List (List ℕ)) (all : EntryLists) (found : Option StoredOp) (key : List ℕ) (content : Option (List ℕ)) (version : ℕ) → option_map (reported keys all) found ≡ Some (write key content version)
+    → (number : ℕ) × (get_or keys number [] ≡ key) × (found ≡ Some (Put number content version))
+entry_of_put keys all None key content version is = cc
+entry_of_put keys all (Some (Put k v w)) key content version is =
+    let own : get_or keys k [] ≡ key = cc in
+    let value : v ≡ content = cc in
+    let same : w ≡ version = cc in
+    (k, own, (λ j. Some (Put k (value j) (same j))))
+entry_of_put keys all (Some (Got k v w)) key content version is = cc
+entry_of_put keys all (Some (Sourced k p w)) key content version is = cc
+entry_of_put keys all (Some (Missed k)) key content version is = cc
 
 module _ (keys : List (List ℕ)) (all : EntryLists) (put got : OpName) (key : ℕ) (value : Option (List ℕ)) (version : ℕ) (was_got : Some (read (get_or keys key []) value version) ≡ op_at (reported_by keys all) got) where
   -- a put of that key, value and version is the get's source
@@ -112,41 +87,27 @@ module _ (keys : List (List ℕ)) (all : EntryLists) (put got : OpName) (key : �
   source_found sound distinct inside s =
       let same : Some (read s.key s.content s.version) ≡ Some (read (get_or keys key []) value version) = sym s.got ∙ sym was_got in
       let as_put : Some (write s.key s.content s.version) ≡ Some (write (get_or keys key []) value version) = cc in
-      put_entry keys all key value version distinct inside (item_at all put) (λ e at. (sound put e at).key) (sym (op_at-reported keys all put) ∙ s.put ∙ as_put)
+      let e = entry_of_put keys all (item_at all put) (get_or keys key []) value version (sym (op_at-reported keys all put) ∙ s.put ∙ as_put) in
+      let there = slice_get-get_or keys e.0 [] (sound put (Put e.0 value version) e.2).key in
+      let number : e.0 ≡ key = distinct e.0 key (get_or keys e.0 []) there (slice_get-get_or keys key [] inside ∙ ap Some (sym e.1)) in
+      e.2 ∙ ap (λ (n : ℕ). Some (Put n value version)) number
 
--- a put or a get that found nothing has no source
-pub no_source : (keys : List (List ℕ)) (all : EntryLists) (put got : OpName) (e : StoredOp) → Some e ≡ item_at all got
-    → ((key : ℕ) × (value : Option (List ℕ)) × (version : ℕ) × (e ≡ Put key value version)) ⊎ ((key : ℕ) × (e ≡ Missed key)) → SourceStep (reported_by keys all) put got → ⊥
-no_source keys all put got e at is s =
-    elim is [
-      | inl p ↦ let both = reported_as keys all got e (write (get_or keys p.0 []) p.1 p.2) at (ap (reported keys all) p.3) ∙ s.got in cc
-      | inr p ↦ let both = reported_as keys all got e (missed (get_or keys p.0 [])) at (ap (reported keys all) p.1) ∙ s.got in cc
-    ]
-
--- like the lemma above, for a reference
+-- a reference to a put or to a get that found nothing has no source
 pub no_source_there : (keys : List (List ℕ)) (all : EntryLists) (put got : OpName) (e : StoredOpRef) → Some (referred e) ≡ item_at all got
     → ((key : ℕ) × (value : Option (Bor Value)) × (version : Bor Version) × (e ≡ PutRef key value version)) ⊎ ((key : ℕ) × (e ≡ MissedRef key)) → SourceStep (reported_by keys all) put got → ⊥
-no_source_there keys all put got e at is =
-    no_source keys all put got (referred e) at (elim is [
-      | inl p ↦ inl (p.0, option_copied p.1, p.2.now, ap referred p.3)
-      | inr p ↦ inr (p.0, ap referred p.1)
-    ])
-
--- an entry that stands for a put is a put's entry
-entry_of_put : (keys : List (List ℕ)) (all : EntryLists) (found : Option StoredOp) (key : List ℕ) (content : Option (List ℕ)) (version : ℕ) → option_map (reported keys all) found ≡ Some (write key content version)
-    → (number : ℕ) × (own : Option (List ℕ)) × (found ≡ Some (Put number own version))
-entry_of_put keys all None key content version is = cc
-entry_of_put keys all (Some (Put k v w)) key content version is = let same : w ≡ version = cc in (k, v, ap (λ (n : ℕ). Some (Put k v n)) same)
-entry_of_put keys all (Some (Got k v w)) key content version is = cc
-entry_of_put keys all (Some (Sourced k p w)) key content version is = cc
-entry_of_put keys all (Some (Missed k)) key content version is = cc
+no_source_there keys all put got e at is s =
+    let report = λ (r : StoredOpRef). reported keys all (referred r) in
+    elim is [
+      | inl p ↦ let both = reported_as keys all got (referred e) (write (get_or keys p.0 []) (option_copied p.1) p.2.now) at (ap report p.3) ∙ s.got in cc
+      | inr p ↦ let both = reported_as keys all got (referred e) (missed (get_or keys p.0 [])) at (ap report p.1) ∙ s.got in cc
+    ]
 
 -- the entries of puts stand for all puts
 pub all_puts : (keys : List (List ℕ)) (all : EntryLists) (puts : List VersionedPut) → ListsEntries all puts → AreAllPuts (reported_by keys all) puts
 all_puts keys all puts lists = record {
   members = λ p. (
     (λ there. let e = (lists.members p).0 there in (get_or keys e.0 [], e.1, op_at-reported keys all p.name ∙ ap (option_map (reported keys all)) e.2)),
-    (λ put. (lists.members p).1 (entry_of_put keys all (item_at all p.name) put.0 put.1 p.version (sym (op_at-reported keys all p.name) ∙ put.2))),
+    (λ put. let e = entry_of_put keys all (item_at all p.name) put.0 put.1 p.version (sym (op_at-reported keys all p.name) ∙ put.2) in (lists.members p).1 (e.0, put.1, e.2)),
   );
   once = lists.once;
 }
@@ -174,7 +135,7 @@ module _ (keys : List (List ℕ)) (all : EntryLists) (name : OpName) where
   -- without a put's entry there is no put
   pub no_puts_of : (number : Option ℕ) → IfNone number ((key version : ℕ) (value : Option (List ℕ)) → item_at all name ≢ Some (Put key value version)) → IfNone number (¬ Puts (reported_by keys all) name)
   no_puts_of (Some n) none = tt
-  no_puts_of None none = λ puts. let e = entry_of_put keys all (item_at all name) puts.1.0 puts.1.1 puts.0 (sym (op_at-reported keys all name) ∙ puts.1.2) in none e.0 puts.0 e.1 e.2
+  no_puts_of None none = λ puts. let e = entry_of_put keys all (item_at all name) puts.1.0 puts.1.1 puts.0 (sym (op_at-reported keys all name) ∙ puts.1.2) in none e.0 puts.0 puts.1.1 e.2
 
 -- ---- gets stored with what they returned
 
@@ -234,14 +195,9 @@ module _ (keys : List (List ℕ)) (all : EntryLists) (gets : List StoredOp) wher
     | inr sourced ↦ inr sourced
   ]
 
--- an operation has an entry
-named_entry : (keys : List (List ℕ)) (all : EntryLists) (o : Option StoredOp) (op : Operation) → option_map (reported keys all) o ≡ Some op → (entry : StoredOp) × (o ≡ Some entry)
-named_entry keys all None op is = cc
-named_entry keys all (Some entry) op is = (entry, refl)
-
 -- operations keep their numbers if entries do
 pub operations_keep : (keys : List (List ℕ)) (all : EntryLists) (old new : List (List (Option ℕ))) → ((name : OpName) (entry : StoredOp) → item_at all name ≡ Some entry → number_at new name ≡ number_at old name)
     → (name : OpName) → IsNamed (reported_by keys all) name → number_at new name ≡ number_at old name
 operations_keep keys all old new keeps name named =
-    let entry = named_entry keys all (item_at all name) named.0 (sym (op_at-reported keys all name) ∙ named.1) in
+    let entry = mapped_from (reported keys all) (item_at all name) named.0 (sym (op_at-reported keys all name) ∙ named.1) in
     keeps name entry.0 entry.1

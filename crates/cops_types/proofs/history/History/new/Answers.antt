@@ -2,7 +2,7 @@ use Rattle.std.proofs.Common.{◌≤◌, Bool, List, map, replicate, false, ap, 
 use Rattle.cops_types.specs.Entries.{EntryLists, reported}
 use Rattle.cops_types.specs.Keeping.{IsKept}
 use Rattle.cops_types.proofs.Holding.{new_kept}
-use Rattle.cops_types.proofs.Reporting.{reported-none}
+use Rattle.cops_types.proofs.Showing.{map-none}
 use Rattle.cops_types.proofs.history.History.new.Goals as goal
 
 pub invariant_of-result : goal.invariant_of-result
@@ -14,4 +14,4 @@ invariant_of-result c =
 pub returns : goal.returns
 returns c =
     ap (λ (all : EntryLists). map (map (reported c.new-3.result.keys c.in_ok-entries.entries.all)) all) c.in_ok-entries.ensures.entries
-    ∙ reported-none c.new-3.result.keys c.in_ok-entries.entries.all c.args.clients
+    ∙ map-none (reported c.new-3.result.keys c.in_ok-entries.entries.all) c.args.clients
