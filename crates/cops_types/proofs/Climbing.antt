@@ -3,7 +3,7 @@ use Rattle.std.proofs.Common.{◌≡◌, ◌≢◌, ◌<◌, ◌≤◌, ◌+◌,
 use Rattle.std.proofs.Math.ListN.{length-set}
 use Rattle.std.proofs.Math.Nat.{eq-or-lt_of_le}
 use Rattle.std.proofs.lemmas.Bool.{cases_eq, cases_lt}
-use Rattle.std.proofs.lemmas.List.{get_or-replicate, length-replicate}
+use Rattle.std.proofs.lemmas.List.{get_or-replicate, length-replicate, set-get_or}
 use Rattle.std.proofs.lemmas.Option.{slice_get_within}
 use Rattle.cops_types.specs.declared.op.OpName.{OpName}
 use Rattle.cops_types.specs.declared.maxima.Maxima.{Maxima}
@@ -223,20 +223,23 @@ module _ (h : Sessions) (client : ℕ) (op : Operation) (inside : client < lengt
     -- the maxima with the last operation's version, or with 0 if it has none
     module _ (number : ℕ) (is : (v : ℕ) → HasVersion longer last v → number ≡ v) (has : (number ≡ 0) ⊎ HasVersion longer last number) where
       -- the client's maximum takes in the number, and the others stay
-      pub maxima_more : (maxima : List ℕ) → length maxima ≡ length old.sessions.items → slice_index_or maxima client 0 ≡ max before_last number
-          → ((c : ℕ) → c ≢ client → slice_index_or maxima c 0 ≡ slice_index_or old.sessions.items c 0)
+      pub maxima_more : (maxima : List ℕ) → maxima ≡ slice_set old.sessions.items client (max before_last number)
           → (c : ℕ) → c < length longer → IsMaximum longer c (length (slice_index_or longer c [])) (slice_index_or maxima c 0)
-      maxima_more maxima len own_maximum others c small =
+      maxima_more maxima set c small =
           let small' : c < length h = omega (arith, small, length-set h client (own ++ op ∷ [])) in
           elim (cases_eq c client) [
             | inl same ↦
                 let next = maximum_next longer client (length own) before_last number (maximum_kept client (length own) before_last (omega arith) (was.each client inside)) is has in
+                let own_maximum : slice_index_or maxima client 0 ≡ max before_last number =
+                ap (λ (l : List ℕ). slice_index_or l client 0) set ∙ get_or-set_same old.sessions.items client (max before_last number) 0 (omega (arith, inside, was.clients)) in
                 let at : IsMaximum longer client (length (slice_index_or longer client [])) (slice_index_or maxima client 0) =
                 subst (λ (k : ℕ). IsMaximum longer client k (slice_index_or maxima client 0)) (sym own_length) (subst (IsMaximum longer client (length own + 1)) (sym own_maximum) next) in
                 subst (λ (k : ℕ). IsMaximum longer k (length (slice_index_or longer k [])) (slice_index_or maxima k 0)) (sym same) at
             | inr differs ↦
+                let others : slice_index_or maxima c 0 ≡ slice_index_or old.sessions.items c 0 =
+                ap (λ (l : List ℕ). slice_index_or l c 0) set ∙ get_or-set_other old.sessions.items client c (max before_last number) 0 differs in
                 let kept = maximum_kept c (length (slice_index_or h c [])) (slice_index_or old.sessions.items c 0) (omega arith) (was.each c small') in
-                subst (λ (k : ℕ). IsMaximum longer c k (slice_index_or maxima c 0)) (sym (others_length c differs)) (subst (IsMaximum longer c (length (slice_index_or h c []))) (sym (others c differs)) kept)
+                subst (λ (k : ℕ). IsMaximum longer c k (slice_index_or maxima c 0)) (sym (others_length c differs)) (subst (IsMaximum longer c (length (slice_index_or h c []))) (sym others) kept)
           ]
 
   -- the other sessions
@@ -262,17 +265,13 @@ module _ (h : Sessions) (client : ℕ) (op : Operation) (inside : client < lengt
   abbrev own_maximum : ℕ
   own_maximum = slice_index_or old.sessions.items client 0
 
-  same_set : (number : ℕ) → new.sessions.items ≡ slice_set old.sessions.items client number → length new.sessions.items ≡ length old.sessions.items
-  same_set number e = ap length e ∙ length-set old.sessions.items client number
+  -- a number that is not above the maximum leaves it as it is
+  unchanged : (number : ℕ) → number ≤ own_maximum → new.sessions.items ≡ old.sessions.items → new.sessions.items ≡ slice_set old.sessions.items client (max own_maximum number)
+  unchanged number low same =
+      same ∙ sym (set-get_or old.sessions.items client 0) ∙ ap (slice_set old.sessions.items client) (let m : own_maximum ≡ max own_maximum number = omega (arith, low) in m)
 
-  own_set : (number : ℕ) → new.sessions.items ≡ slice_set old.sessions.items client number → slice_index_or new.sessions.items client 0 ≡ number
-  own_set number e = ap (λ (l : List ℕ). slice_index_or l client 0) e ∙ get_or-set_same old.sessions.items client number 0 (omega (arith, inside, was.clients))
-
-  others_set : (number : ℕ) → new.sessions.items ≡ slice_set old.sessions.items client number → (c : ℕ) → c ≢ client → slice_index_or new.sessions.items c 0 ≡ slice_index_or old.sessions.items c 0
-  others_set number e c differs = ap (λ (l : List ℕ). slice_index_or l c 0) e ∙ get_or-set_other old.sessions.items client c number 0 differs
-
-  clients_longer : length new.sessions.items ≡ length old.sessions.items → length new.sessions.items ≡ length (with_op h client op)
-  clients_longer e = omega (arith, e, was.clients, length-set h client (slice_index_or h client [] ++ op ∷ []))
+  clients_longer : (number : ℕ) → new.sessions.items ≡ slice_set old.sessions.items client number → length new.sessions.items ≡ length (with_op h client op)
+  clients_longer number e = omega (arith, ap length e, length-set old.sessions.items client number, was.clients, length-set h client (slice_index_or h client [] ++ op ∷ []))
 
   flags_longer : length new.rise.items ≡ length old.rise.items → length new.rise.items ≡ length (with_op h client op)
   flags_longer e = omega (arith, e, was.flags, length-set h client (slice_index_or h client [] ++ op ∷ []))
@@ -294,9 +293,8 @@ module _ (h : Sessions) (client : ℕ) (op : Operation) (inside : client < lengt
   took_low v key content e some low same flag not =
       let put : PutsVersion grown newest v = (key, content, last_there h client op inside ∙ ap (λ (x : Operation). Some x) e) in
       record {
-        clients = clients_longer (ap length same);
-        each = maxima_more h client op inside old was v (λ w has. one_has grown newest v w (inl put) has) (inr (inl put)) new.sessions.items (ap length same)
-            (ap (λ (l : List ℕ). slice_index_or l client 0) same ∙ (let m : own_maximum ≡ max own_maximum v = omega (arith, low) in m)) (λ c differs. ap (λ (l : List ℕ). slice_index_or l c 0) same);
+        clients = clients_longer (max own_maximum v) (unchanged v low same);
+        each = maxima_more h client op inside old was v (λ w has. one_has grown newest v w (inl put) has) (inr (inl put)) new.sessions.items (unchanged v low same);
         flags = flags_longer (ap length flag ∙ length-set old.rise.items client false);
         session_above = λ c t. elim (cases_eq c client) [
           | inl equal ↦ let bad : true ≡ false = sym t ∙ ap (λ (k : ℕ). slice_index_or new.rise.items k false) equal ∙ flag_own flag in absurd cc
@@ -312,12 +310,11 @@ module _ (h : Sessions) (client : ℕ) (op : Operation) (inside : client < lengt
 
   -- the last operation is not a put, or is a put above what its session saw
   climbed : (number : ℕ) → ((v : ℕ) → HasVersion grown newest v → number ≡ v) → (number ≡ 0) ⊎ HasVersion grown newest number → ((v : ℕ) → PutsVersion grown newest v → own_maximum < v)
-      → length new.sessions.items ≡ length old.sessions.items → slice_index_or new.sessions.items client 0 ≡ max own_maximum number
-      → ((c : ℕ) → c ≢ client → slice_index_or new.sessions.items c 0 ≡ slice_index_or old.sessions.items c 0) → new.rise.items ≡ old.rise.items → new.are_above ≡ old.are_above
+      → new.sessions.items ≡ slice_set old.sessions.items client (max own_maximum number) → new.rise.items ≡ old.rise.items → new.are_above ≡ old.are_above
       → AreSessionMaxima (with_op h client op) new
-  climbed number is has rises len own_is others flag kept = record {
-    clients = clients_longer len;
-    each = maxima_more h client op inside old was number is has new.sessions.items len own_is others;
+  climbed number is has rises set flag kept = record {
+    clients = clients_longer (max own_maximum number) set;
+    each = maxima_more h client op inside old was number is has new.sessions.items set;
     flags = flags_longer (ap length flag);
     session_above = λ c t. session_still_above h client op inside old was rises c (was.session_above c (flag_same flag c ∙ t));
     session_not_above = λ c small f. session_still_not_above h client op inside c (was.session_not_above c (was_there c small) (flag_same flag c ∙ f));
@@ -330,7 +327,7 @@ module _ (h : Sessions) (client : ℕ) (op : Operation) (inside : client < lengt
   took_high v key content e high same =
       let put : PutsVersion grown newest v = (key, content, last_there h client op inside ∙ ap (λ (x : Operation). Some x) e) in
       climbed v (λ w has. one_has grown newest v w (inl put) has) (inr (inl put)) (λ w other. let s = one_version grown newest v w put other in omega (arith, s, high))
-      (same_set v same) (own_set v same ∙ (let m : v ≡ max own_maximum v = omega (arith, high) in m)) (others_set v same)
+      (same ∙ ap (slice_set old.sessions.items client) (let m : v ≡ max own_maximum v = omega (arith, high) in m))
 
   pub took_got : (v : ℕ) (key : List ℕ) (content : Option (List ℕ)) → op ≡ read key content v → new.sessions.items ≡ slice_set old.sessions.items client (max own_maximum v) → new.rise.items ≡ old.rise.items → new.are_above ≡ old.are_above
       → AreSessionMaxima (with_op h client op) new
@@ -338,14 +335,14 @@ module _ (h : Sessions) (client : ℕ) (op : Operation) (inside : client < lengt
       let at : op_at grown newest ≡ Some (read key content v) = last_there h client op inside ∙ ap (λ (x : Operation). Some x) e in
       climbed v (λ w has. one_has grown newest v w (inr (key, content, at)) has) (inr (inr (key, content, at)))
       (λ w other. let bad : Some (write other.0 other.1 w) ≡ Some (read key content v) = sym other.2 ∙ at in absurd cc)
-      (same_set (max own_maximum v) same) (own_set (max own_maximum v) same) (others_set (max own_maximum v) same)
+      same
 
   pub took_missed : (key : List ℕ) → op ≡ missed key → new.sessions.items ≡ old.sessions.items → new.rise.items ≡ old.rise.items → new.are_above ≡ old.are_above
       → AreSessionMaxima (with_op h client op) new
   took_missed key e same =
       let at : op_at grown newest ≡ Some (missed key) = last_there h client op inside ∙ ap (λ (x : Operation). Some x) e in
       climbed 0 (λ w has. absurd (missed_has grown newest key w at has)) (inl refl) (λ w other. let bad : Some (write other.0 other.1 w) ≡ Some (missed key) = sym other.2 ∙ at in absurd cc)
-      (ap length same) (ap (λ (l : List ℕ). slice_index_or l client 0) same ∙ (let m : own_maximum ≡ max own_maximum 0 = omega arith in m)) (λ c differs. ap (λ (l : List ℕ). slice_index_or l c 0) same)
+      (unchanged 0 (omega arith) same)
 
 -- sessions without operations
 nothing_there : (clients : ℕ) (n : OpName) (x : Operation) → ¬ (op_at (replicate clients []) n ≡ Some x)

@@ -14,7 +14,7 @@ use Rattle.cops_types.specs.declared.entry.StoredOp.TheVariants.{Put, Got, Sourc
 use Rattle.cops_types.specs.Lists.{item_at, number_at}
 use Rattle.cops_types.specs.Histories.{IsNamed, Puts, PutsVersion, SourceStep, op_at, Operation, write, read, missed}
 use Rattle.cops_types.specs.Operations.{GetsVersion, key_of}
-use Rattle.cops_types.specs.Entries.{EntryLists, AreSound, ListsEntries, referred, value_put, reported, reported_by, key_number_of}
+use Rattle.cops_types.specs.Entries.{EntryLists, AreSound, HasValue, ListsEntries, referred, with_key, value_put, reported, reported_by, key_number_of}
 use Rattle.cops_types.specs.declared.versioned_put.VersionedPut.{VersionedPut}
 use Rattle.cops_types.specs.KeySets.{AreDistinct}
 use Rattle.cops_types.specs.PutLists.{AreAllPuts}
@@ -35,6 +35,17 @@ module _ (keys : List (List ℕ)) (all : EntryLists) (name : OpName) where
   -- with an entry, the operation is the one that it stands for
   pub reported_as : (e : StoredOp) (op : Operation) → Some e ≡ item_at all name → reported keys all e ≡ op → Some op ≡ op_at (reported_by keys all) name
   reported_as e op at is = ap Some (sym is) ∙ ap (option_map (reported keys all)) at ∙ sym (op_at-reported keys all name)
+
+  -- so it is for a reference, given its key
+  pub reported_with : (e : StoredOpRef) (key : List ℕ) → Some (referred e) ≡ item_at all name → HasValue all e → key ≡ get_or keys (key_number_of (referred e)) []
+      → Some (with_key key e) ≡ op_at (reported_by keys all) name
+  reported_with e key at has is = reported_as (referred e) (with_key key e) at (as_reported e has is)
+    where
+      as_reported : (e : StoredOpRef) → HasValue all e → key ≡ get_or keys (key_number_of (referred e)) [] → reported keys all (referred e) ≡ with_key key e
+      as_reported (PutRef number value version) has is = ap (λ k. write k (option_copied value) version.now) (sym is)
+      as_reported (GotRef number value version) has is = ap (λ k. read k (option_copied value) version.now) (sym is)
+      as_reported (SourcedRef number put value version) has is = (λ j. read (sym is j) (sym has j) version.now)
+      as_reported (MissedRef number) has is = ap missed (sym is)
 
   -- the operation's key has the entry's number
   pub key_numbered : (e : StoredOp) (number : ℕ) → AreSound keys all → Some e ≡ item_at all name → number ≡ key_number_of e → slice_get keys number ≡ option_map key_of (op_at (reported_by keys all) name)

@@ -104,6 +104,13 @@ referred (GotRef key value version) = Got key (option_copied value) version.now
 referred (SourcedRef key put value version) = Sourced key put version.now
 referred (MissedRef key) = Missed key
 
+-- the operation of a reference, given its key
+abbrev pub with_key : List ℕ → StoredOpRef → Operation
+with_key text (PutRef key value version) = write text (option_copied value) version.now
+with_key text (GotRef key value version) = read text (option_copied value) version.now
+with_key text (SourcedRef key put value version) = read text (option_copied value) version.now
+with_key text (MissedRef key) = missed text
+
 -- the reference has the value of the put that it names
 abbrev pub HasValue : EntryLists → StoredOpRef → Type 0
 HasValue all (SourcedRef key put value version) = option_copied value ≡ value_put all put.name

@@ -238,29 +238,8 @@ impl Entries {
         ensures more_puts { OnOk result (more ≤ self.new.more_puts) }
         ensures more_gets { OnOk result (more ≤ self.new.more_gets) }
     {
-        self.reserve_lists(more)?;
-        self.reserve_slot(client)
-    }
-
-    /// Makes room for `more` more puts and gets.
-    #[inline(always)]
-    fn reserve_lists(&mut self, more: usize) -> Result<(), Memory>
-        ensures keeps { KeepsEntries self.old self.new }
-        ensures more_puts { OnOk result (more ≤ self.new.more_puts) }
-        ensures more_gets { OnOk result (more ≤ self.new.more_gets) }
-    {
         self.puts.reserve(more)?;
         self.gets.reserve(more)?;
-        Ok(())
-    }
-
-    /// Makes room in a client's session.
-    #[inline(always)]
-    fn reserve_slot(&mut self, client: u16) -> Result<(), Memory>
-        requires { client < length self.old.all }
-        ensures keeps { KeepsEntries self.old self.new }
-        ensures room { OnOk result (slice_index_or self.new.room client false ≡ true) }
-    {
         self.slots.reserve(client)
     }
 

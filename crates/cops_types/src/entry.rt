@@ -1,4 +1,6 @@
+use crate::key::Key;
 use crate::op::OpName;
+use crate::op_ref::OpRef;
 use crate::op_view::ValueView;
 use crate::value::Value;
 use crate::version::Version;
@@ -70,9 +72,10 @@ pub(crate) enum StoredOpRef<'a> {
     },
 }
 
-impl StoredOpRef<'_> {
+impl<'a> StoredOpRef<'a> {
     ghost use Rattle.std.specs.Prelude.{◌≡◌};
-    ghost use Rattle.cops_types.specs.Entries.{key_number_of, referred};
+    ghost use Rattle.cops_types.specs.Entries.{key_number_of, referred, with_key};
+    ghost use Rattle.cops_types.specs.OpRefs.{seen};
 
     /// The number of the operation's key.
     pub(crate) fn key(&self) -> u32
@@ -83,6 +86,27 @@ impl StoredOpRef<'_> {
             | StoredOpRef::Got { key, .. }
             | StoredOpRef::Sourced { key, .. }
             | StoredOpRef::Missed { key } => *key,
+        }
+    }
+
+    /// The operation, whose key is this one.
+    #[inline(always)]
+    pub(crate) fn with_key(self, key: &'a Key) -> OpRef<'a>
+        ensures { seen result ≡ with_key key.now self.entry }
+    {
+        match self {
+            StoredOpRef::Put { value, version, .. } => OpRef::Put {
+                key,
+                value,
+                version,
+            },
+            StoredOpRef::Got { value, version, .. } | StoredOpRef::Sourced { value, version, .. } =>
+                OpRef::Got {
+                    key,
+                    value,
+                    version,
+                },
+            StoredOpRef::Missed { .. } => OpRef::Missed { key },
         }
     }
 }

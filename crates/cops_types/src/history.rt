@@ -371,25 +371,7 @@ impl History {
         ensures limit { OnSome result (name.index < MAX_CLIENT_OPS) }
     {
         let entry = self.entries.get(name)?;
-        let key = self.keys.key(entry.key());
-        match entry {
-            StoredOpRef::Put { value, version, .. } => Some(OpRef::Put {
-                key,
-                value,
-                version,
-            }),
-            StoredOpRef::Got { value, version, .. } => Some(OpRef::Got {
-                key,
-                value,
-                version,
-            }),
-            StoredOpRef::Sourced { value, version, .. } => Some(OpRef::Got {
-                key,
-                value,
-                version,
-            }),
-            StoredOpRef::Missed { .. } => Some(OpRef::Missed { key }),
-        }
+        Some(entry.with_key(self.keys.key(entry.key())))
     }
 
     /// The number of the key of that name's operation, if there is one: below `keys`.

@@ -209,10 +209,7 @@ impl Lookup {
             return Some(number);
         }
         let beside = self.keys.find(place ^ 1)?;
-        if keys.is_at(beside, key) {
-            return Some(beside);
-        }
-        None
+        keys.is_at(beside, key).then_some(beside)
     }
 
     /// Stores the number of a key, next to its place if another key has that.
@@ -257,20 +254,13 @@ impl Coming {
 fn put_among(puts: &Candidates<PutCandidate>, version: Option<Version>) -> Option<u32> {
     let version = version?;
     let candidate = puts.find(place(version))?;
-    if candidate.tag != tag(version) {
-        return None;
-    }
-    Some(candidate.number)
+    (candidate.tag == tag(version)).then_some(candidate.number)
 }
 
 /// The candidate for a key's number, unless it is seen to be wrong.
 fn key_that_may_be(candidate: Option<u32>, keys: &KeySet, key: &KeyView<'_>) -> Option<u32> {
     let number = candidate?;
-    if keys.may_be_at(number, key) {
-        Some(number)
-    } else {
-        None
-    }
+    keys.may_be_at(number, key).then_some(number)
 }
 
 /// The candidate for a put's number, unless it is seen to be wrong.
@@ -283,11 +273,7 @@ fn put_that_may_be(candidate: Option<u32>, entries: &Entries, op: &OpView<'_>) -
         Some(value) => value.as_bytes().len(),
         None => 0,
     };
-    if entries.may_be_put(number, len, *version) {
-        Some(number)
-    } else {
-        None
-    }
+    entries.may_be_put(number, len, *version).then_some(number)
 }
 
 /// Spreads keys over places, by their first and their last bytes.
