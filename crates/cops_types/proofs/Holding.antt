@@ -108,7 +108,7 @@ module _ (k k' : KeptKeys) (e e' : KeptEntries) (maxima : Maxima) (reserved : Li
       (omega (arith, kept.places)) (omega (arith, kept.put_places, keeps.more_puts)) (omega (arith, kept.get_places, keeps.more_gets))
 
   -- one more reservation
-  pub flag_kept : (client : ℕ) → client < length e.all → get_or reserved client false ≡ false → get_or e'.room client false ≡ true → reservations + 1 ≤ k'.spare → reservations + 1 ≤ e'.more_puts → reservations + 1 ≤ e'.more_gets
+  pub flag_kept : (client : ℕ) → client < length (reported_by k.keys e.all) → get_or reserved client false ≡ false → get_or e'.room client false ≡ true → reservations + 1 ≤ k'.spare → reservations + 1 ≤ e'.more_puts → reservations + 1 ≤ e'.more_gets
       → IsKept k' e' maxima (set reserved client true) (reservations + 1) len
   flag_kept client inside was has =
       reserved_kept (set reserved client true) (reservations + 1) (length-set reserved client true)
@@ -116,14 +116,17 @@ module _ (k k' : KeptKeys) (e e' : KeptEntries) (maxima : Maxima) (reserved : Li
         | inl p ↦ subst (λ (d : ℕ). get_or e'.room d false ≡ true) p has
         | inr p ↦ keeps.others c (kept.room c (sym (get_or-set_other reserved client c true false p) ∙ flag))
       ])
-      (omega (arith, kept.held, set_flag reserved client (omega (arith, kept.flags)) was))
+      (omega (arith, kept.held, set_flag reserved client (omega (arith, inside, kept.flags, length-map e.all (map (reported k.keys e.all)))) was))
 
 -- ---- one more operation
 
-module _ (k k' : KeptKeys) (e e' : KeptEntries) (maxima : Maxima) (reserved : List Bool) (reservations len client : ℕ) (entry : StoredOp) (op : Operation) (inside : client < length e.all) (kept : IsKept k e maxima reserved reservations len)
+module _ (k k' : KeptKeys) (e e' : KeptEntries) (maxima : Maxima) (reserved : List Bool) (reservations len client : ℕ) (entry : StoredOp) (op : Operation) (inside : client < length (reported_by k.keys e.all)) (kept : IsKept k e maxima reserved reservations len)
     (gains : GainsKey k k') (fits : IsSound k'.keys e.all entry) (is : reported k'.keys e.all entry ≡ op) (all : e'.all ≡ with_item e.all client entry) (more : GainsEntry entry e e') where
+  there : client < length e.all
+  there = omega (arith, inside, length-map e.all (map (reported k.keys e.all)))
+
   pub put_reported : reported_by k'.keys e'.all ≡ with_op (reported_by k.keys e.all) client op
-  put_reported = ap (reported_by k'.keys) all ∙ reported_by-with_item k.keys k'.keys gains.places e.all client entry inside kept.sound fits op is
+  put_reported = ap (reported_by k'.keys) all ∙ reported_by-with_item k.keys k'.keys gains.places e.all client entry there kept.sound fits op is
 
   -- the keys of the gets stored with what they returned
   gets_keyed : (number : ℕ) (x : StoredOp) → slice_get e'.gets number ≡ Some x → key_number_of x < length k'.keys
@@ -147,13 +150,12 @@ module _ (k k' : KeptKeys) (e e' : KeptEntries) (maxima : Maxima) (reserved : Li
       → IsKept k' e' maxima' (set reserved client false) (reservations - 1) (len + 1)
   put_kept maxima' takes flag room session most =
       let h = reported_by k.keys e.all in
-      let there : client < length h = omega (arith, length-map e.all (map (reported k.keys e.all))) in
-      let flags : client < length reserved = omega (arith, kept.flags) in
+      let flags : client < length reserved = omega (arith, there, kept.flags) in
       record {
-        limits = subst IsWithinLimits (sym put_reported) (within_with_op h client op (there, session, most) kept.limits);
-        count = omega (arith, kept.count, ap count_of put_reported, count-with_op h client op there);
-        counted = omega (arith, more.names, kept.counted, puts-with_op h client op there, ap put_count put_reported, puts-reported k'.keys e.all entry, ap (λ (o : Operation). flag_count (is_put o)) is);
-        sound = subst (AreSound k'.keys) (sym all) (sound-with_item k.keys k'.keys gains.places e.all client entry inside kept.sound fits);
+        limits = subst IsWithinLimits (sym put_reported) (within_with_op h client op (inside, session, most) kept.limits);
+        count = omega (arith, kept.count, ap count_of put_reported, count-with_op h client op inside);
+        counted = omega (arith, more.names, kept.counted, puts-with_op h client op inside, ap put_count put_reported, puts-reported k'.keys e.all entry, ap (λ (o : Operation). flag_count (is_put o)) is);
+        sound = subst (AreSound k'.keys) (sym all) (sound-with_item k.keys k'.keys gains.places e.all client entry there kept.sound fits);
         distinct = gains.distinct;
         few = omega (arith, gains.few, kept.few);
         flags = length-set reserved client false ∙ kept.flags ∙ sym (ap length all ∙ length-set e.all client (get_or e.all client [] ++ entry ∷ []));

@@ -2,7 +2,6 @@
 use Rattle.std.proofs.Common.{◌≡◌, ◌≢◌, ℕ, zero, suc, ◌+◌, ◌<◌, ◌≤◌, Bool, true, false, cond, eqb, List, [], ◌∷◌, ◌++◌, map, length, get_or, replicate, refl, sym, ap, ◌∙◌, subst, arith, get_or-set_same, get_or-set_other, inl, inr}
 use Rattle.std.specs.Prelude.{◌⊎◌, Result, Ok, Err, OnErr, count_by}
 use Rattle.std.proofs.Math.ListN.{set, length-set}
-use Rattle.std.proofs.Math.Seq.{map-set_same}
 use Rattle.std.proofs.lemmas.Bool.{cases_Bool, eqb-true, eqb-false}
 use Rattle.std.proofs.lemmas.List.{map-set, get_or-map, length-append, length-replicate, length-map}
 use Rattle.std.proofs.lemmas.List.Sums.{count_by-le-length, sum_by-cons, sum_by-set}
@@ -85,10 +84,6 @@ within_with_op h i op ok w =
 -- ---- lists as they are stored
 
 module _ {V X : Type 0} (items : V → List X) (has_room : V → Bool) where
-  -- replacing an element by one with the same items
-  pub same_items : (xs : List V) (i : ℕ) (old new : V) → old ≡ get_or xs i old → items new ≡ items old → map items (set xs i new) ≡ map items xs
-  same_items xs i old new at same = map-set_same items xs i new old (same ∙ ap items at)
-
   -- the items at an index are those of the element there
   pub own_items : (xs : List V) (i : ℕ) (old : V) → i < length xs → old ≡ get_or xs i old → get_or (map items xs) i [] ≡ items old
   own_items xs i old inside at = get_or-map items xs i old [] inside ∙ ap items (sym at)

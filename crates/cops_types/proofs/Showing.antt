@@ -126,8 +126,8 @@ module _ {X : Type 0} (lists : List (List X)) (client : ℕ) (item : X) (inside 
 pub item_at-shown : (puts : List KeptPut) (gets : List KeptGot) (slots : List (List OpSlot)) (name : OpName) → item_at (shown_by puts gets slots) name ≡ option_map (shown puts gets) (item_at slots name)
 item_at-shown puts gets slots name = item_at-map (shown puts gets) slots name
 
-pub length-shown : (puts : List KeptPut) (gets : List KeptGot) (slots : List (List OpSlot)) (client : ℕ) → length (get_or (shown_by puts gets slots) client []) ≡ length (get_or slots client [])
-length-shown puts gets slots client = length-map_map (shown puts gets) slots client
+pub length_shown : (puts : List KeptPut) (gets : List KeptGot) (slots : List (List OpSlot)) (client : ℕ) → length (get_or (shown_by puts gets slots) client []) ≡ length (get_or slots client [])
+length_shown puts gets slots client = length-map_map (shown puts gets) slots client
 
 -- an index within a list has an item
 pub found : {X : Type 0} (xs : List X) (i : ℕ) → i < length xs → (x : X) × (slice_get xs i ≡ Some x)

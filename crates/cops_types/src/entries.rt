@@ -77,6 +77,7 @@ impl Entries {
     }
 
     /// The number of a client's entries, 0 if there is no such client.
+    #[tactic(auto, using(crate::proofs::Showing::length_shown))]
     pub(crate) fn session_len(&self, client: u16) -> usize
         ensures { result ≡ length (slice_index_or self.now.all client []) }
     {
@@ -91,6 +92,7 @@ impl Entries {
     }
 
     /// The number of gets stored with what they returned, which is the number of the next one.
+    #[tactic(auto, using(crate::proofs::Showing::are_numbered))]
     pub(crate) fn gets(&self) -> usize
         ensures count { result ≡ length self.now.gets }
         ensures kept { HasGets self.now }

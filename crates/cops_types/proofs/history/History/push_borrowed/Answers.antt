@@ -1,6 +1,4 @@
-use Rattle.std.proofs.Common.{◌<◌, length, map, arith}
-use Rattle.std.proofs.lemmas.List.{length-map}
-use Rattle.cops_types.specs.Entries.{reported, reported_by}
+use Rattle.cops_types.specs.Entries.{reported_by}
 use Rattle.cops_types.specs.OpViews.{viewed}
 use Rattle.cops_types.proofs.Holding.{put_reported, put_kept}
 use Rattle.cops_types.proofs.Sources.{operations_keep}
@@ -8,21 +6,17 @@ use Rattle.cops_types.proofs.history.History.push_borrowed.Goals as goal
 
 pub invariant_of-self-2 : goal.invariant_of-self-2
 invariant_of-self-2 c =
-    let all = c.self.inside.entries.all in
-    let inside : c.args.client < length all = omega (arith, rw (← c.self.view_is) at c.requires.inside, length-map all (map (reported c.self.inside.keys.keys all))) in
     let made = c.in_ok-entry.ensures in
     put_kept c.self.inside.keys c.borrowed_entry.new.keys c.self.inside.entries c.push.new.self c.self.inside.maxima c.self.inside.reserved.items c.self.inside.reservations c.self.inside.len c.args.client c.in_ok-entry.entry (viewed c.args.op.now)
-    inside c.self.invariant made.gains made.sound made.reported c.push.ensures.all c.push.ensures.gains
-    c.take_in.new.self (c.take_in.ensures c.borrowed_entry.new.keys.keys all (reported_by c.self.inside.keys.keys all) (viewed c.args.op.now) made.reported) (rw (← c.self.view_is) at c.requires.room) c.push.ensures.others
+    (rw (← c.self.view_is) at c.requires.inside) c.self.invariant made.gains made.sound made.reported c.push.ensures.all c.push.ensures.gains
+    c.take_in.new.self (c.take_in.ensures c.borrowed_entry.new.keys.keys c.self.inside.entries.all (reported_by c.self.inside.keys.keys c.self.inside.entries.all) (viewed c.args.op.now) made.reported) (rw (← c.self.view_is) at c.requires.room) c.push.ensures.others
     (rw (← c.self.view_is) at c.requires.session) (rw (← c.self.view_is) at c.requires.all)
 
 pub returns-clause-ok : goal.returns-clause-ok
 returns-clause-ok c =
-    let all = c.self.inside.entries.all in
-    let inside : c.args.client < length all = omega (arith, rw (← c.self.view_is) at c.requires.inside, length-map all (map (reported c.self.inside.keys.keys all))) in
     let made = c.in_ok-entry.ensures in
     rw (← c.self.view_is) (put_reported c.self.inside.keys c.borrowed_entry.new.keys c.self.inside.entries c.push.new.self c.self.inside.maxima c.self.inside.reserved.items c.self.inside.reservations c.self.inside.len c.args.client c.in_ok-entry.entry (viewed c.args.op.now)
-    inside c.self.invariant made.gains made.sound made.reported c.push.ensures.all c.push.ensures.gains)
+    (rw (← c.self.view_is) at c.requires.inside) c.self.invariant made.gains made.sound made.reported c.push.ensures.all c.push.ensures.gains)
 
 pub returns-clause-pending : goal.returns-clause-pending
 returns-clause-pending c =
