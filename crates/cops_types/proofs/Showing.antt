@@ -235,26 +235,6 @@ module _ (puts : List KeptPut) (gets : List KeptGot) (slots : List (List OpSlot)
       let same : name ≡ p.0.name = cc in
       ap (item_at slots) same ∙ kept.named n p.0 p.1
 
-  -- a put's slot stands for a put
-  pub put_of : (name : OpName) (n : ℕ) → item_at slots name ≡ Some (PutSlot n) → (key version : ℕ) × (value : Option (List ℕ)) × (item_at (shown_by puts gets slots) name ≡ Some (Put key value version))
-  put_of name n at =
-      let p = kept.back name n at in
-      (p.0.key, p.0.version, content_of p.0.has_value p.0.value, ap (item_at (shown_by puts gets slots)) (sym p.2) ∙ put_at n p.0 p.1)
-
-  -- the put to which a slot refers is there
-  pub source_of : (name : OpName) (n : ℕ) → item_at slots name ≡ Some (SourcedSlot n)
-      → (put : OpName) × (slice_get (map (λ (p : KeptPut). p.name) puts) n ≡ Some put)
-      × (key version : ℕ) × (item_at (shown_by puts gets slots) name ≡ Some (Sourced key (record { name = put; number = n }) version))
-  source_of name n at =
-      let f = λ (q : KeptPut). q.name in
-      let p = found puts n (kept.there name (SourcedSlot n) at) in (
-        p.0.name,
-        slice_get-map f puts n ∙ ap (option_map f) p.1,
-        p.0.key,
-        p.0.version,
-        item_at-shown puts gets slots name ∙ ap (option_map (shown puts gets)) at ∙ ap (λ (o : Option KeptPut). Some (source_shown n o)) p.1,
-      )
-
   -- a reference has its put's value
   pub has_value : (e : StoredOpRef) → IsFrom puts e → HasValue (shown_by puts gets slots) e
   has_value (PutRef key value version) from = tt
@@ -350,7 +330,9 @@ module _ (puts : List KeptPut) (gets : List KeptGot) (slots : List (List OpSlot)
   -- the number is that of a put's entry
   pub number_is_put : (number : Option ℕ) → ((n : ℕ) → (number ≡ Some n) ↔ (item_at slots name ≡ Some (PutSlot n)))
       → IfSome number (λ _. (key version : ℕ) × (value : Option (List ℕ)) × (item_at (shown_by puts gets slots) name ≡ Some (Put key value version)))
-  number_is_put (Some n) reports = put_of puts gets slots kept name n ((reports n).0 refl)
+  number_is_put (Some n) reports =
+      let p = kept.back name n ((reports n).0 refl) in
+      (p.0.key, p.0.version, content_of p.0.has_value p.0.value, ap (item_at (shown_by puts gets slots)) (sym p.2) ∙ put_at puts gets slots kept n p.0 p.1)
   number_is_put None reports = tt
 
   -- without a number there is no put's entry
@@ -359,10 +341,19 @@ module _ (puts : List KeptPut) (gets : List KeptGot) (slots : List (List OpSlot)
   no_number_no_put (Some n) reports = tt
   no_number_no_put None reports = no_put_shown puts gets slots kept name (λ n at. let gone : None ≡ Some n = (reports n).1 at in cc)
 
+  -- the put to which a slot refers is there
   pub names_source : (number : Option ℕ) → IfSome number (λ n. item_at slots name ≡ Some (SourcedSlot n))
       → IfSome number (λ n. (put : OpName) × (slice_get (map (λ (p : KeptPut). p.name) puts) n ≡ Some put)
       × (key version : ℕ) × (item_at (shown_by puts gets slots) name ≡ Some (Sourced key (record { name = put; number = n }) version)))
-  names_source (Some n) at = source_of puts gets slots kept name n at
+  names_source (Some n) at =
+      let f = λ (q : KeptPut). q.name in
+      let p = found puts n (kept.there name (SourcedSlot n) at) in (
+        p.0.name,
+        slice_get-map f puts n ∙ ap (option_map f) p.1,
+        p.0.key,
+        p.0.version,
+        item_at-shown puts gets slots name ∙ ap (option_map (shown puts gets)) at ∙ ap (λ (o : Option KeptPut). Some (source_shown n o)) p.1,
+      )
   names_source None at = tt
 
 -- ---- gets stored with what they returned

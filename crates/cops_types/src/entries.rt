@@ -247,6 +247,7 @@ impl Entries {
 
     /// Adds a client's next entry. Allocates nothing: room has to be reserved.
     #[inline(always)]
+    #[tactic(auto, using(crate::proofs::Showing::length_shown))]
     pub(crate) fn push(&mut self, client: u16, entry: StoredOp)
         requires inside { client < length self.old.all }
         requires room { slice_index_or self.old.room client false ≡ true }

@@ -1,19 +1,8 @@
 use Rattle.std.proofs.Common.{arith}
 use Rattle.std.proofs.lemmas.List.{length-map}
 use Rattle.cops_types.specs.declared.slot.KeptPut.{KeptPut}
-use Rattle.cops_types.proofs.Showing.{gains, has_slots, length_shown, numbers_stay, stored}
+use Rattle.cops_types.proofs.Showing.{gains, has_slots, numbers_stay, stored}
 use Rattle.cops_types.proofs.entries.Entries.push.Goals as goal
-
-pub kept-slot-requires-clause-few : goal.kept-slot-requires-clause-few
-kept-slot-requires-clause-few c =
-    omega (arith, rw (← c.self.view_is) at c.requires.few, length_shown c.self.inside.puts.items c.self.inside.gets.items c.self.inside.slots.all c.args.client)
-
-pub push-requires-clause-inside : goal.push-requires-clause-inside
-push-requires-clause-inside c = has_slots c.self.inside.puts.items c.self.inside.gets.items c.self.inside.slots.all c.args.client (rw (← c.self.view_is) at c.requires.inside)
-
-pub push-requires-clause-few : goal.push-requires-clause-few
-push-requires-clause-few c =
-    omega (arith, rw (← c.self.view_is) at c.requires.few, length_shown c.self.inside.puts.items c.self.inside.gets.items c.self.inside.slots.all c.args.client)
 
 pub invariant_of-self : goal.invariant_of-self
 invariant_of-self c =
