@@ -263,15 +263,15 @@ impl Entries {
         ensures numbers { KeepsNumbers self.old self.new }
         ensures others { KeepsOthersRoom client self.old.room self.new.room }
     {
-        let slot = kept(&mut self.puts, &mut self.gets, &self.slots, client, entry);
+        let slot = store(&mut self.puts, &mut self.gets, &self.slots, client, entry);
         self.slots.push(client, slot);
     }
 }
 
-/// Stores what is an entry's own among the puts or the gets, in room that was reserved, and gives its slot. The slots are
-/// those before it.
+/// Stores a put, or a get with what it returned, in room that was reserved. Returns the slot of the entry, which comes
+/// after those in `slots`.
 #[inline(always)]
-fn kept(
+fn store(
     puts: &mut Vec<KeptPut>,
     gets: &mut Vec<KeptGot>,
     slots: &Slots,
