@@ -13,13 +13,6 @@ use Rattle.cops_report.specs.Searches.{Follows, HasSteps, IsFound, IsSearch, IsW
 use Rattle.cops_report.proofs.SearchLemmas.{one_steps}
 use Rattle.cops_report.proofs.StepLemmas.{first_named}
 
--- a name one step before a name that is not too far has at most one step more
-one_further : (h : Sessions) (to : OpName) (t : Table) (d : ℕ) → IsSearch h to t d [] → (a b : OpName) (k : ℕ) → k < d → HasSteps t b k → Step h a b → (j : ℕ) × HasSteps t a j × (j ≤ k + 1)
-one_further h to t d i a b k lt has st =
-    let m = i.closed a b k has (inl lt) st in
-    let from : HasSteps t a m.0.steps = (m.0, m.1, refl) in
-    (m.0.steps, from, i.near a b m.0.steps k from has (inl lt) st)
-
 -- a name from which k steps lead to the end has at most k steps, as far as the search has gone
 reaches : (h : Sessions) (to : OpName) (t : Table) (d : ℕ) → IsSearch h to t d [] → (rest : List OpName) (a : OpName) → LeadsTo h to a rest → length rest ≤ d
     → (j : ℕ) × HasSteps t a j × (j ≤ length rest)
@@ -27,7 +20,7 @@ reaches h to t d i [] a leads le = (0, subst (λ (x : OpName). HasSteps t x 0) (
 reaches h to t d i (b ∷ rest) a leads le =
     let on = reaches h to t d i rest b leads.1 (omega arith) in
     let low : on.0 < d = omega (arith, on.2) in
-    let more = one_further h to t d i a b on.0 low on.1 leads.0 in
+    let more = i.near a b on.0 on.1 (omega arith) (λ e. absurd (omega arith)) leads.0 in
     (more.0, more.1, omega (arith, more.2, on.2))
 
 -- where the search has ended, all such names are marked
@@ -45,7 +38,8 @@ reaches_all h to t d i fresh empty rest a leads = (let r = go rest a leads in (r
     go [] a leads = (0, subst (λ (x : OpName). HasSteps t x 0) (sym leads) i.root)
     go (b ∷ rest) a leads =
         let on = go rest b leads.1 in
-        let more = one_further h to t d i a b on.0 (low b on.0 on.1) on.1 leads.0 in
+        let below = low b on.0 on.1 in
+        let more = i.near a b on.0 on.1 (omega arith) (λ e. absurd (omega arith)) leads.0 in
         (more.0, more.1)
 
 -- the names that follow along the marks are a chain, with as many steps as the first mark says
@@ -72,7 +66,7 @@ follows_first h to t d i (b ∷ rest) a f le (c ∷ others) leads same =
     let own = (follows_leads h to t d i (b ∷ rest) a f).1 in
     let on = reaches h to t d i others c leads.1 (omega arith) in
     let below : on.0 < d = omega (arith, on.2) in
-    let more = one_further h to t d i a c on.0 below on.1 leads.0 in
+    let more = i.near a c on.0 on.1 (omega arith) (λ e. absurd (omega arith)) leads.0 in
     let is : more.0 ≡ length (b ∷ rest) = one_steps t a more.0 (length (b ∷ rest)) more.1 own in
     let there : on.0 ≡ k = omega (arith, more.2, on.2) in
     let m = f.0.0 in

@@ -1,9 +1,9 @@
 -- From one level of a search to the next.
-use Rattle.std.proofs.Common.{rules, ◌≡◌, ◌≢◌, ◌∙◌, ◌+◌, ◌<◌, ◌⊎◌, ℕ, List, [], ◌∷◌, length, take, get_or, Some, None, refl, sym, ap, subst, arith, inl, inr, ⊎_elim}
-use Rattle.std.specs.Prelude.{Contains, zero, suc}
+use Rattle.std.proofs.Common.{rules, ◌≡◌, ◌≢◌, ◌∙◌, ◌+◌, ◌<◌, ◌⊎◌, ℕ, List, [], ◌∷◌, length, take, get_or, Some, None, refl, sym, ap, subst, arith, inl, inr}
+use Rattle.std.specs.Prelude.{Contains}
 use Rattle.std.specs.List.Sorted.{IsPermutation}
 use Rattle.std.proofs.lemmas.List.{get_or_default, get_or-take, length-take}
-use Rattle.std.proofs.lemmas.List.Elements.{Contains-get_or}
+use Rattle.std.proofs.lemmas.List.Elements.{Contains-get_or, Contains-push_cases}
 use Rattle.std.proofs.lemmas.List.Sorted.{Contains-permutation, IsPermutation-sym}
 use Rattle.std.proofs.lemmas.Bool.{cases_lt}
 use Rattle.cops_types.specs.declared.op.OpName.{OpName}
@@ -13,7 +13,6 @@ use Rattle.cops_report.specs.Marks.{Table, Gains, PlacesAll, SessionsMarked, mar
 use Rattle.cops_report.specs.Searches.{HasSteps, IsAtOrBefore, IsLevel, IsRising, IsSearch}
 use Rattle.cops_audit.proofs.Differing.{name_cases}
 use Rattle.cops_report.proofs.SearchLemmas.{steps_before, steps_kept}
-use Rattle.cops_report.proofs.StepLemmas.{earlier_step, name_at}
 use Rattle.cops_report.proofs.Tables.{mark_at-other, mark_at-same, mark_at-unmarked, place_marked, places-unmarked}
 
 pub none_contained : {X : Type 0} (x : X) → ¬ Contains {X = X} [] x
@@ -60,30 +59,16 @@ not_before t k level i d is rising lt n a =
     ]
 
 -- before an earlier operation of the session that has no more steps, all are marked
-pub sessions_marked : (h : Sessions) (to : OpName) (t : Table) (d : ℕ) (level : List OpName) (i : ℕ) (e : OpName) → i < length level → IsRising level → IsLevel t d level → PlacesAll t h
-    → IsSearch h to t d (take i level) → SessionsMarked t (record { steps = d + 1; next = get_or level i e })
-sessions_marked h to t d level i e lt rising is places search index before near k below =
-    let next = get_or level i e in
-    let n = name_at next.client index in
-    let steps = near.0.steps in
-    let has : HasSteps t n steps = (near.0, near.1, refl) in
-    let named : IsNamed h n = (places n).0 (place_marked t n (near.0, near.1)) in
-    search.closed (name_at n.client k) n steps has (why index steps has before near.2) (earlier_step h n k named below)
+pub sessions_marked : (h : Sessions) (to : OpName) (t : Table) (d : ℕ) (level : List OpName) (i : ℕ) (e : OpName) → i < length level → IsRising level → IsLevel t d level
+    → IsSearch h to t d (take i level) → SessionsMarked h t (record { steps = d + 1; next = get_or level i e })
+sessions_marked h to t d level i e lt rising is search n own near before st =
+    let r = search.near before n near.0.steps (near.0, near.1, refl) (omega (arith, near.2)) why (inl st) in (r.1.0, r.1.1)
   where
-    not_after : (a b : OpName) → a.client ≡ b.client → b.index < a.index → ¬ IsAtOrBefore a b
+    not_after : (a b : OpName) → b.client ≡ a.client → b.index < a.index → ¬ IsAtOrBefore a b
     not_after a b c lt at = grind arith
 
-    why : (index steps : ℕ) → HasSteps t (name_at (get_or level i e).client index) steps → index < (get_or level i e).index → steps < d + 1
-        → (steps < d) ⊎ Contains (take i level) (name_at (get_or level i e).client index)
-    why index steps has before low = elim (cases_lt steps d) [
-      | inl less ↦ inl less
-      | inr more ↦
-          let next = get_or level i e in
-          let n = name_at next.client index in
-          let same : steps ≡ d = omega arith in
-          let there : HasSteps t n d = subst (HasSteps t n) same has in
-          elim (not_before t d level i e is rising lt n there) [ inl done ↦ inr done | inr at ↦ absurd (not_after next n refl before at) ]
-    ]
+    why : near.0.steps ≡ d → Contains (take i level) n
+    why same = elim (not_before t d level i e is rising lt n (near.0, near.1, same)) [ inl done ↦ done | inr at ↦ absurd (not_after (get_or level i e) n own.same_client own.earlier at) ]
 
 -- the level is done, and the search is before the next one
 pub level_end : (h : Sessions) (to : OpName) (t : Table) (d : ℕ) (level : List OpName) → IsSearch h to t d level → IsLevel t d level → IsSearch h to t (d + 1) []
@@ -92,15 +77,11 @@ level_end h to t d level i is = record {
   only_root = i.only_root;
   step = i.step;
   bound = λ n k a. omega (arith, i.bound n k a);
-  done_steps = λ n c. absurd (none_contained n c);
-  closed = λ a b k has why st. i.closed a b k has (below b k has why) st;
-  near = λ a b j k from has why st. i.near a b j k from has (below b k has why) st;
+  near = λ a b k has low why st.
+      let other : k ≢ d + 1 = λ e. none_contained b (why e) in
+      i.near a b k has (omega arith) (λ e. (is b).1 (subst (HasSteps t b) e has)) st;
   first = i.first;
 }
-  where
-    below : (b : OpName) (k : ℕ) → HasSteps t b k → (k < d + 1) ⊎ Contains [] b → (k < d) ⊎ Contains level b
-    below b k has (inr c) = absurd (none_contained b c)
-    below b k has (inl lt) = elim (cases_lt k d) [ inl low ↦ inl low | inr high ↦ (let same : k ≡ d = omega arith in inr ((is b).1 (subst (HasSteps t b) same has))) ]
 
 -- beyond the next level nothing is marked yet
 pub fresh_end : (h : Sessions) (to : OpName) (t : Table) (d : ℕ) (level : List OpName) → IsSearch h to t d level → IsLevel t (d + 1 + 1) []
@@ -113,11 +94,10 @@ level_permuted t k xs ys p is n = (λ c. (is n).0 (Contains-permutation ys xs n 
 -- ---- the beginning
 
 module _ (h : Sessions) (to : OpName) (m0 : Mark) (is0 : m0.steps ≡ 0) (named : IsNamed h to) where
-  start : Table
+  abbrev start : Table
   start = with_mark (unmarked h) to m0
 
   only : (n : OpName) (m : Mark) → mark_at start n ≡ Some m → (n ≡ to) × (m ≡ m0)
-  unfolding start
   only n m e = elim (name_cases n to) [
     | inl same ↦
         let there = (places-unmarked h to).1 named in
@@ -133,31 +113,22 @@ module _ (h : Sessions) (to : OpName) (m0 : Mark) (is0 : m0.steps ≡ 0) (named 
   root_steps = (m0, mark_at-same (unmarked h) to m0 ((places-unmarked h to).1 named), is0)
 
   pub search_start : IsSearch h to (with_mark (unmarked h) to m0) 0 []
-  unfolding start
   search_start = record {
     root = root_steps;
     only_root = λ n a. (only n a.0 a.1).0;
     step = λ n m k e count. absurd (omega (arith, only_steps n (k + 1) (m, e, count)));
     bound = λ n k a. omega (arith, only_steps n k a);
-    done_steps = λ n c. absurd (none_contained n c);
-    closed = λ a b k has why st. absurd (⊎_elim (λ low. omega arith) (λ c. none_contained b c) why);
-    near = λ a b j k from has why st. absurd (⊎_elim (λ low. omega arith) (λ c. none_contained b c) why);
+    near = λ a b k has low why st. absurd (none_contained b (why (only_steps b k has)));
     first = λ a b m k e count has st. absurd (omega (arith, only_steps a (k + 1) (m, e, count)));
   }
 
   pub level_start : (names : List OpName) → names ≡ to ∷ [] → IsLevel (with_mark (unmarked h) to m0) 0 names
-  unfolding start
-  level_start names is n = (
-    λ c. (let d = subst (λ (xs : List OpName). Contains xs n) is c in subst (λ (x : OpName). HasSteps (with_mark (unmarked h) to m0) x 0) (one_contained n to d) root_steps),
-    λ a. subst (λ (xs : List OpName). Contains xs n) (sym is) (0, omega arith, sym (only n a.0 a.1).0),
+  level_start names is n = rw is (
+    λ c. elim (Contains-push_cases [] to n c) [ inl none ↦ absurd (none_contained n none) | inr e ↦ subst (λ (x : OpName). HasSteps (with_mark (unmarked h) to m0) x 0) e root_steps ],
+    λ a. (0, omega arith, sym (only n a.0 a.1).0),
   )
-    where
-      one_contained : (n to : OpName) → Contains (to ∷ []) n → to ≡ n
-      one_contained n to (zero, lt, at) = at
-      one_contained n to (suc k, lt, at) = absurd (omega arith)
 
   pub fresh_start : IsLevel (with_mark (unmarked h) to m0) (0 + 1) []
-  unfolding start
   fresh_start n = (λ c. absurd (none_contained n c), λ a. absurd (omega (arith, only_steps n (0 + 1) a)))
 
 pub rising_one : (names : List OpName) (to : OpName) → names ≡ to ∷ [] → IsRising names

@@ -82,18 +82,13 @@ got_of (Some (missed k)) key left version e = absurd cc
 
 -- ---- values that have to be the same
 
-value_cases : (xs ys : List ℕ) → (xs ≡ ys) ⊎ (xs ≢ ys)
-value_cases xs ys =
-    let same = bytes_eq-Decides xs ys in
-    elim (cases_Bool (bytes_eq xs ys)) [ inl e ↦ inl (same.0 e) | inr e ↦ inr (λ is. absurd (let f = same.1 is in cc)) ]
-
 content_cases : (x y : Option (List ℕ)) → (x ≡ y) ⊎ (x ≢ y)
 content_cases None None = inl refl
 content_cases None (Some ys) = inr (λ e. absurd cc)
 content_cases (Some xs) None = inr (λ e. absurd cc)
-content_cases (Some xs) (Some ys) = elim (value_cases xs ys) [
-  | inl same ↦ inl (ap Some same)
-  | inr other ↦ inr (λ e. let same : xs ≡ ys = cc in other same)
+content_cases (Some xs) (Some ys) = elim (cases_Bool (bytes_eq xs ys)) [
+  | inl e ↦ inl (ap Some ((bytes_eq-Decides xs ys).0 e))
+  | inr e ↦ inr (λ is. let same : xs ≡ ys = cc in absurd (let f = (bytes_eq-Decides xs ys).1 same in cc))
 ]
 
 -- a put with the key and the version of a get has its content

@@ -58,23 +58,15 @@ mark_at-same t n m there =
 -- the mark of another name stays, in another session or at another place
 pub mark_at-other : (t : Table) (n k : OpName) (m : Mark) → k ≢ n → mark_at (with_mark t n m) k ≡ mark_at t k
 mark_at-other t n k m other = elim (cases_eq k.client n.client) [
-  | inl c ↦
-      ap (λ (x : ℕ). get_or (get_or (with_mark t n m) x []) k.index None) c
-      ∙ ap (λ (x : List (Option Mark)). get_or x k.index None) (session-same t n m)
-      ∙ get_or-set_other (get_or t n.client []) n.index k.index (Some m) None (λ i. other (same_name k n c i))
-      ∙ ap (λ (x : ℕ). get_or (get_or t x []) k.index None) (sym c)
-  | inr c ↦ ap (λ (x : List (Option Mark)). get_or x k.index None) (get_or-set_other t n.client k.client (set (get_or t n.client []) n.index (Some m)) [] c)
+  | inl c ↦ rw (c, session-same t n m, get_or-set_other (get_or t n.client []) n.index k.index (Some m) None (λ i. other (same_name k n c i)))
+  | inr c ↦ rw (get_or-set_other t n.client k.client (set (get_or t n.client []) n.index (Some m)) [] c)
 ]
 
 -- a mark changes no place
 pub place-with_mark : (t : Table) (n k : OpName) (m : Mark) → length (get_or (with_mark t n m) k.client []) ≡ length (get_or t k.client [])
 place-with_mark t n k m = elim (cases_eq k.client n.client) [
-  | inl c ↦
-      ap (λ (x : ℕ). length (get_or (with_mark t n m) x [])) c
-      ∙ ap length (session-same t n m)
-      ∙ length-set (get_or t n.client []) n.index (Some m)
-      ∙ ap (λ (x : ℕ). length (get_or t x [])) (sym c)
-  | inr c ↦ ap length (get_or-set_other t n.client k.client (set (get_or t n.client []) n.index (Some m)) [] c)
+  | inl c ↦ rw (c, session-same t n m, length-set (get_or t n.client []) n.index (Some m))
+  | inr c ↦ rw (get_or-set_other t n.client k.client (set (get_or t n.client []) n.index (Some m)) [] c)
 ]
 
 -- ---- open places

@@ -1,7 +1,7 @@
 -- Marks: what a backward search from a name has found for each operation.
 use Rattle.std.specs.Prelude.{◌≡◌, ◌<◌, ◌+◌, ◌⊎◌, ◌↔◌, ℕ, List, [], map, length, sum_by, count_by, replicate, Contains, Option, Some, None, is_none, slice_index_or, slice_set}
 use Rattle.cops_types.specs.declared.op.OpName.{OpName}
-use Rattle.cops_types.specs.Histories.{Sessions, IsNamed}
+use Rattle.cops_types.specs.Histories.{Sessions, IsNamed, SessionStep}
 use Rattle.cops_types.specs.Past.{Step}
 use Rattle.cops_report.specs.declared.marks.Mark.{Mark}
 
@@ -37,18 +37,13 @@ unmarked h = map (λ s. replicate (length s) None) h
 abbrev pub IsMarked : Table → OpName → Type 0
 IsMarked t name = (mark : Mark) × (mark_at t name ≡ Some mark)
 
--- the first operations of the client are marked
-abbrev pub AreMarked : Table → ℕ → ℕ → Type 0
-AreMarked t client index = (k : ℕ) → k < index → IsMarked t (record { client = client; index = k })
-
 -- the name is marked with fewer steps
 abbrev pub IsNearer : Table → OpName → ℕ → Type 0
 IsNearer t name steps = (m : Mark) × (mark_at t name ≡ Some m) × (m.steps < steps)
 
 -- before each earlier operation of the session of the mark's next name that is marked with fewer steps, all operations are marked
-abbrev pub SessionsMarked : Table → Mark → Type 0
-SessionsMarked t mark = (index : ℕ) → index < mark.next.index
-    → IsNearer t (record { client = mark.next.client; index = index }) mark.steps → AreMarked t mark.next.client index
+abbrev pub SessionsMarked : Sessions → Table → Mark → Type 0
+SessionsMarked h t mark = (n : OpName) → SessionStep h n mark.next → IsNearer t n mark.steps → (before : OpName) → SessionStep h before n → IsMarked t before
 
 -- some names without a mark, from each of which a step leads to the mark's next name, got the mark and were added to the list; all else is as it was
 pub record Gains (h : Sessions) (mark : Mark) (old new : Table) (names more : List OpName) : Type 0 where

@@ -73,10 +73,6 @@ AreStaleLines h [] text = text ≡ []
 AreStaleLines h (f ∷ fs) text = (chain : List OpName) × (rest : List ℕ)
     × IsFirstChain h f.newer f.op chain × (text ≡ stale_line h f chain ++ rest) × AreStaleLines h fs rest
 
--- the text gains the line of one stale get
-abbrev pub AddsStaleLine : Sessions → Stale → List ℕ → List ℕ → Type 0
-AddsStaleLine h f old new = (chain : List OpName) × IsFirstChain h f.newer f.op chain × (new ≡ old ++ stale_line h f chain)
-
 -- the first line of a refusal, and then a line for each fault
 abbrev pub refusal : Sessions → ℕ → List ℕ → List ℕ
 refusal h faults lines = refused_line (count_of h) (put_count h) faults ++ lines

@@ -25,16 +25,14 @@ abbrev pub IsRising : List OpName → Type 0
 IsRising names =
     (j k : ℕ) (d : OpName) → j ≤ k → k < length names → IsAtOrBefore (slice_index_or names j d) (slice_index_or names k d)
 
--- What is marked leads to `to` in as many steps as its mark says, and each mark's next name is the first that has one step less. From each name with
--- less than d steps, and from each of the names that are done, the names one step before it are marked too.
+-- What is marked leads to `to` in as many steps as its mark says, and each mark's next name is the first that has one step less. The names one step before
+-- a name with at most d steps, and one of those that are done if it has d, are marked with at most one step more.
 pub record IsSearch (h : Sessions) (to : OpName) (t : Table) (d : ℕ) (done : List OpName) : Type 0 where
   pub root : HasSteps t to 0
   pub only_root : (n : OpName) → HasSteps t n 0 → n ≡ to
   pub step : (n : OpName) (m : Mark) (k : ℕ) → mark_at t n ≡ Some m → m.steps ≡ k + 1 → Step h n m.next × HasSteps t m.next k
   pub bound : (n : OpName) (k : ℕ) → HasSteps t n k → k ≤ d + 1
-  pub done_steps : (n : OpName) → Contains done n → HasSteps t n d
-  pub closed : (a b : OpName) (k : ℕ) → HasSteps t b k → (k < d) ⊎ Contains done b → Step h a b → IsMarked t a
-  pub near : (a b : OpName) (j k : ℕ) → HasSteps t a j → HasSteps t b k → (k < d) ⊎ Contains done b → Step h a b → j ≤ k + 1
+  pub near : (a b : OpName) (k : ℕ) → HasSteps t b k → k ≤ d → (k ≡ d → Contains done b) → Step h a b → (j : ℕ) × HasSteps t a j × (j ≤ k + 1)
   pub first : (a b : OpName) (m : Mark) (k : ℕ) → mark_at t a ≡ Some m → m.steps ≡ k + 1 → HasSteps t b k → Step h a b → IsAtOrBefore m.next b
 
 -- a search that has marked all names up to those of the level, which are in order

@@ -50,9 +50,9 @@ pub fn chain_by(
         return Ok(None);
     }
     let marks = search(alloc, history, puts, from, to)?;
-    if marks.get(from).is_none() {
+    let Some(_) = marks.get(from) else {
         return Ok(None);
-    }
+    };
     let names = walk(alloc, &marks, from, to)?;
     Ok(Some(names))
 }

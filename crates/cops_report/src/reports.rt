@@ -1,4 +1,4 @@
-ghost use Rattle.std.specs.Prelude.{◌≡◌, OnOk, IfOk, Contains, length, string_bytes};
+ghost use Rattle.std.specs.Prelude.{◌≡◌, IfOk, Contains, length, string_bytes};
 ghost use Rattle.std.specs.List.{flat_map};
 ghost use Rattle.cops_types.specs.declared.op.OpName.{OpName};
 ghost use Rattle.cops_types.specs.Faults.{IsStale};
@@ -6,38 +6,15 @@ ghost use Rattle.cops_types.specs.Counts.{count_of, put_count};
 ghost use Rattle.cops_audit.specs.Verdicts.{IsVerdict};
 ghost use Rattle.cops_audit.specs.declared.verdict.NotAbove.{NotAbove};
 ghost use Rattle.cops_audit.specs.declared.verdict.Stale.{Stale};
-ghost use Rattle.cops_report.specs.Puts.{HasAllPuts};
-ghost use Rattle.cops_report.specs.Reports.{AddsStaleLine, HasSomeVersion, IsRefusal, IsReport, IsStaleRefusal, accepted_line, named_line, not_above_line, refusal, refused_line};
+ghost use Rattle.cops_report.specs.Reports.{HasSomeVersion, IsRefusal, IsReport, IsStaleRefusal, accepted_line, named_line, not_above_line, refusal, refused_line};
 
 use crate::chains::chain_by;
 use crate::lines::{stale, version_at};
 use crate::puts::put_table;
 use cops_audit::{Faults, NotAbove, Stale, Verdict};
-use cops_types::{History, Memory, OpName, VersionedPut};
+use cops_types::{History, Memory, OpName};
 use std::alloc::{AllocError, Global};
 use std::fmt::Write;
-
-/// Adds the line of a stale get, with the chain from the newer put to it.
-fn stale_line(
-    alloc: Global,
-    text: &mut String,
-    history: &History,
-    puts: &[VersionedPut],
-    fault: Stale,
-) -> Result<(), Memory>
-    requires puts { HasAllPuts history.now.sessions puts.now }
-    requires stale { IsStale history.now.sessions fault.op fault.newer }
-    ensures { OnOk result (AddsStaleLine history.now.sessions fault (string_bytes text.old) (string_bytes text.new)) }
-{
-    let found = chain_by(alloc, history, puts, fault.newer, fault.op)?;
-    match found {
-        Some(names) => {
-            stale(text, history, fault, &names)?;
-            Ok(())
-        }
-        None => unreachable!(),
-    }
-}
 
 /// The first line of a refusal with this number of faults: `refused: N operations, M puts, F faults`.
 fn refused(alloc: Global, history: &History, faults: usize) -> Result<String, AllocError>
@@ -111,7 +88,9 @@ fn refused_stale(alloc: Global, history: &History, faults: &[Stale]) -> Result<S
     let mut text = refused(alloc, history, faults.len())?;
     let puts = put_table(alloc, history)?;
     for fault in faults {
-        stale_line(alloc, &mut text, history, &puts, *fault)?;
+        let found = chain_by(alloc, history, &puts, fault.newer, fault.op)?;
+        let Some(names) = found else { unreachable!() };
+        stale(&mut text, history, *fault, &names)?;
     }
     Ok(text)
 }

@@ -54,7 +54,7 @@ fn mark_session(
 ) -> Result<(), AllocError>
     requires named { IsNamed history.now.sessions mark.next }
     requires places { PlacesAll marks.old history.now.sessions }
-    requires nearer { SessionsMarked marks.old mark }
+    requires nearer { SessionsMarked history.now.sessions marks.old mark }
     ensures gains { OnOk result
         (Gains history.now.sessions mark marks.old marks.new names.old.items names.new.items) }
     ensures all { OnOk result ((n : OpName) →
@@ -101,27 +101,6 @@ fn mark_sources(
     Ok(())
 }
 
-/// Marks the operations from which one step leads to `mark.next`.
-fn mark_before(
-    history: &History,
-    puts: &[VersionedPut],
-    marks: &mut Marks,
-    names: &mut Vec<OpName>,
-    mark: Mark,
-) -> Result<(), AllocError>
-    requires named { IsNamed history.now.sessions mark.next }
-    requires nearer { SessionsMarked marks.old mark }
-    requires puts { HasAllPuts history.now.sessions puts.now }
-    requires places { PlacesAll marks.old history.now.sessions }
-    ensures gains { OnOk result
-        (Gains history.now.sessions mark marks.old marks.new names.old.items names.new.items) }
-    ensures all { OnOk result ((n : OpName) → Step history.now.sessions n mark.next → IsMarked marks.new n) }
-{
-    mark_session(history, marks, names, mark)?;
-    mark_sources(history, puts, marks, names, mark)?;
-    Ok(())
-}
-
 /// The names from which `steps` steps lead to the end of the search, and no fewer, in order.
 #[derive(Drop)]
 struct Level {
@@ -150,7 +129,8 @@ fn mark_level(
     let mut names = Vec::new(alloc);
     for next in reached {
         let mark = Mark { steps, next: *next };
-        mark_before(history, puts, marks, &mut names, mark)?;
+        mark_session(history, marks, &mut names, mark)?;
+        mark_sources(history, puts, marks, &mut names, mark)?;
     }
     names.sort_unstable();
     Ok(Level { steps, names })

@@ -1,12 +1,7 @@
-use Rattle.std.proofs.Common.{◌≡◌, ◌∙◌, Option, Some, None, is_some, true, false, refl, sym}
-use Rattle.cops_report.specs.declared.marks.Mark.{Mark}
+use Rattle.std.proofs.Common.{◌≡◌, ◌∙◌, true, false, refl, sym}
 use Rattle.cops_report.proofs.ChainLemmas.{chain_names, first_chain, leads_back, no_chain}
 use Rattle.cops_report.proofs.chains.chain_by.Goals as goal
 use Rattle.cops_report.proofs.chains.chain_by.Goals.{then-not-is_named-via-then-not-is_named, then-not-is_named-via-else-not-is_named+then-not-is_named-2}
-
-none_is : (o : Option Mark) → is_some o ≡ false → o ≡ None
-none_is (Some m) e = absurd cc
-none_is None e = refl
 
 pub returns-then-not-is_named : goal.returns-then-not-is_named
 returns-then-not-is_named c = λ names chain.
@@ -16,8 +11,8 @@ returns-then-not-is_named c = λ names chain.
       | then-not-is_named-via-else-not-is_named+then-not-is_named-2 w ↦ absurd (let e : false ≡ true = w.if-not-is_named-2.ensures.1 named.1 in cc)
     ]
 
-pub returns-then-is_none : goal.returns-then-is_none
-returns-then-is_none c = no_chain c.args.history.now.sessions c.args.from c.args.to c.in_ok-marks.marks c.in_ok-marks.ensures (sym c.get.ensures ∙ none_is c.get.result c.if-is_none.ensures)
+pub returns-in_default : goal.returns-in_default
+returns-in_default c = no_chain c.args.history.now.sessions c.args.from c.args.to c.in_ok-marks.marks c.in_ok-marks.ensures (sym c.get.ensures ∙ c.in_default.is)
 
 pub walk-requires-clause-back : goal.walk-requires-clause-back
 walk-requires-clause-back c = leads_back c.args.history.now.sessions c.args.to c.in_ok-marks.marks c.in_ok-marks.ensures.depth c.in_ok-marks.ensures.search
