@@ -1,5 +1,6 @@
 -- Pieces that follow one another.
-use Rattle.std.proofs.Common.{◌≡◌, ℕ, zero, suc, ◌+◌, ◌*◌, ◌/◌, ◌%◌, ◌<◌, ◌≤◌, List, [], ◌∷◌, ◌++◌, length, sym, ◌∙◌, ap, arith, subst, inl, inr, min, All, get_or, slice_index_or}
+use Rattle.std.proofs.Common.{◌≡◌, ℕ, zero, suc, ◌+◌, ◌*◌, ◌/◌, ◌%◌, ◌<◌, ◌≤◌, List, [], ◌∷◌, ◌++◌, length, sym, ◌∙◌, ap, arith, subst, inl, inr, min, ltb, get_or, slice_index_or}
+use Rattle.core.specs.Int.{from_bool}
 use Rattle.std.proofs.Math.Nat.{mul-le-mul_left}
 use Rattle.std.proofs.Math.Seq.{get_or-append_seam}
 use Rattle.std.proofs.lemmas.Bool.{cases_lt, lt-ltb, le-ltb}
@@ -16,18 +17,15 @@ cut_more i a b [] p cut number start = (omega (arith, number), start ∙ sym cut
 cut_more i a b (q ∷ qs) p cut number start =
     (cut.0, cut.1, cut_more (i + 1) (a + q.len) b qs p cut.2 (omega (arith, number)) start)
 
--- the pieces so far end within the operations
-pub cut_bound : (count w n b : ℕ) → 0 < w → n < w → b ≡ (n + 1) * (count / w) + min (n + 1) (count % w) → b ≤ count
-cut_bound count w n b some below is =
+-- the start after the next piece, which is within the operations, and the length of that piece
+pub next_start : (count w n start more : ℕ) → 0 < w → n < w → start ≡ n * (count / w) + min n (count % w) → more ≡ from_bool (ltb n (count % w))
+    → (start + (count / w + more) ≡ (n + 1) * (count / w) + min (n + 1) (count % w)) × (start + (count / w + more) ≤ count) × (count / w + more ≡ piece_len count w n)
+next_start count w n start more some below is by =
     let h : (count / w) * (n + 1) ≤ (count / w) * w = mul-le-mul_left (count / w) (omega arith) in
-    omega arith
-
--- the length of a piece, by whether it is among the longer ones
-pub len_is : (count workers n len : ℕ) → (n < count % workers → len ≡ count / workers + 1) → (count % workers ≤ n → len ≡ count / workers) → len ≡ piece_len count workers n
-len_is count workers n len longer shorter = elim (cases_lt n (count % workers)) [
-  | inl l ↦ rw (lt-ltb n (count % workers) l) (longer l)
-  | inr s ↦ rw (le-ltb n (count % workers) s) (shorter s ∙ omega arith)
-]
+    elim (cases_lt n (count % w)) [
+      | inl l ↦ (let one : more ≡ 1 = rw (lt-ltb n (count % w) l) at by in (omega arith, omega arith, rw (lt-ltb n (count % w) l, one)))
+      | inr s ↦ (let none : more ≡ 0 = rw (le-ltb n (count % w) s) at by in (omega arith, omega arith, rw (le-ltb n (count % w) s, none)))
+    ]
 
 -- the lengths of the pieces so far, with one more
 pub lengths_more : (count workers n : ℕ) (ps : List Piece) (p : Piece) → length ps ≡ n → ((k : ℕ) (d : Piece) → k < n → (get_or ps k d).len ≡ piece_len count workers k) → p.len ≡ piece_len count workers n
@@ -39,10 +37,6 @@ lengths_more count workers n ps p len old new k d below = elim (cases_lt k n) [
       let is : k ≡ n = omega (arith, below, last) in
       ap (λ m. (get_or (ps ++ p ∷ []) m d).len) at ∙ (ap (λ (q : Piece). q.len) (get_or-append_seam ps p [] d) ∙ (new ∙ ap (λ m. piece_len count workers m) (sym is)))
 ]
-
-pub all_one : (P : Piece → Type 0) (p : Piece) → P p → All P (p ∷ [])
-all_one P p h zero d below = h
-all_one P p h (suc k) d below = absurd (omega arith)
 
 cut_number : (i a b : ℕ) (ps : List Piece) (k : ℕ) (d : Piece) → IsCut i a ps b → k < length ps → (slice_index_or ps k d).number ≡ i + k
 cut_number i a b [] k d cut below = absurd (omega arith)

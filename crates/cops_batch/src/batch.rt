@@ -38,10 +38,7 @@ pub fn judge_with<R: Threads + Wait + Sync, G: Gate>(
     ensures bad { IsErrOf result BadWorkers ↔ ((workers ≡ 0) ⊎ (MAX_WORKERS < workers)) }
     ensures held { IsErrOf result Held → (i : ℕ) × (i < workers) × MayHoldPiece (G.may_hold gate.now) i }
 {
-    if workers == 0 {
-        return Err(BatchFault::BadWorkers);
-    }
-    if workers > MAX_WORKERS {
+    if workers == 0 || workers > MAX_WORKERS {
         return Err(BatchFault::BadWorkers);
     }
     verdict_on_convergence();

@@ -64,11 +64,7 @@ pub fn cut(alloc: Global, count: usize, workers: u8) -> Result<Vec<Piece>, Alloc
     let mut pieces = Vec::with_capacity(alloc, usize::from(workers))?;
     let mut start = 0;
     for number in 0..workers {
-        let len = if usize::from(number) < longer {
-            short + 1
-        } else {
-            short
-        };
+        let len = short + usize::from(usize::from(number) < longer);
         pieces.push(Piece::new(alloc, u32::from(number), start, len))?;
         start += len;
     }
