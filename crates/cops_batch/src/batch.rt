@@ -2,7 +2,6 @@ ghost use Rattle.std.specs.Prelude.{◌≡◌, ◌<◌, ◌⊎◌, ◌↔◌, �
 ghost use Rattle.cops_types.specs.declared.op.OpName.{OpName};
 ghost use Rattle.cops_types.specs.Convergence.{IsCausallyConvergent};
 ghost use Rattle.cops_types.specs.declared.limits.TheConstants.{MAX_WORKERS};
-ghost use Rattle.cops_audit.specs.Names.{ListsStale};
 ghost use Rattle.cops_audit.specs.Tables.{Repeats, Rises};
 ghost use Rattle.cops_audit.specs.Verdicts.{Accepts, ConvergesByVersions, IsVerdict};
 ghost use Rattle.cops_batch.specs.Found.{HasDoubled, HasNoEarlierFaults, HasStale, IsSearched};
@@ -13,7 +12,7 @@ ghost use Rattle.cops_batch.specs.declared.fault.BatchFault.TheVariants.{BadWork
 use crate::fault::BatchFault;
 use crate::joining::{finished, joined_before_stale, joined_names, joined_stale};
 use crate::pieces::{Piece, cut, leave, look_before_stale, look_for_doubled, look_for_stale};
-use cops_audit::{Puts, Stale, Tables, Verdict, verdict_on_convergence};
+use cops_audit::{Puts, Tables, Verdict, verdict_on_convergence};
 use cops_types::{Gate, History, MAX_WORKERS};
 use std::alloc::Global;
 use std::sync::Wait;
@@ -167,7 +166,7 @@ fn last_round<R: Threads + Wait + Sync, G: Gate>(
 }
 
 /// The verdict where the classes before the stale gets are empty. The tables in which stale gets are looked up are
-/// built here.
+/// built here, and each worker looks for the stale gets of its piece.
 fn judge_stale<R: Threads + Wait + Sync, G: Gate>(
     rt: &R,
     alloc: Global,
@@ -182,45 +181,27 @@ fn judge_stale<R: Threads + Wait + Sync, G: Gate>(
     ensures ok { IfOk result (IsVerdict puts.entry.sessions) }
     ensures err { IfErr result (MayFail (G.may_hold gate.now) (length pieces.old)) }
 {
-    let Ok(tables) = Tables::parallel(rt, alloc, puts, pieces.len() as u8) else {
+    let threads = pieces.len();
+    let Ok(tables) = Tables::parallel(rt, alloc, puts, threads as u8) else {
         last_round(rt, gate, pieces)?;
         return Err(BatchFault::Memory);
     };
-    let stale = stale_in_pieces(rt, alloc, &tables, gate, pieces)?;
-    tables.verdict(alloc, stale).or(Err(BatchFault::Memory))
-}
-
-/// The stale gets in all pieces, each looked for by a worker.
-fn stale_in_pieces<R: Threads + Wait + Sync, G: Gate>(
-    rt: &R,
-    alloc: Global,
-    tables: &Tables,
-    gate: &G,
-    pieces: &mut [Piece],
-) -> Result<Vec<Stale>, BatchFault>
-    requires clean { HasNoEarlierFaults tables.now.sessions }
-    requires pieces { ArePieces tables.now.names pieces.old }
-    requires held { Each (IsStoppedByGate (G.may_hold gate.now)) pieces.old }
-    ensures ok { IfOk result (λ v. ListsStale tables.now.sessions tables.now.names v.items) }
-    ensures err { IfErr result (MayFail (G.may_hold gate.now) (length pieces.old)) }
-{
-    let threads = pieces.len();
     thread::for_each_mut(
         rt,
         pieces,
         threads,
         &|_, piece: &mut Piece|
-            requires clean { HasNoEarlierFaults tables.now.sessions }
-            requires within { LiesWithin (length tables.now.names) piece.now }
+            requires clean { HasNoEarlierFaults tables.sessions }
+            requires within { LiesWithin (length tables.names) piece.now }
             requires held { IsStoppedByGate (G.may_hold gate.now) piece.now }
             ensures place { SamePlace piece.entry.now piece.exit.now }
             ensures held { IsStoppedByGate (G.may_hold gate.entry.now) piece.exit.now }
-            ensures found { piece.exit.now.state ≡ Fine → HasStale tables.entry.now piece.exit.now }
-        { look_for_stale(rt, alloc, tables, gate, piece) },
+            ensures found { piece.exit.now.state ≡ Fine → HasStale tables.entry piece.exit.now }
+        { look_for_stale(rt, alloc, &tables, gate, piece) },
     );
     finished(gate, pieces)?;
     let Ok(stale) = joined_stale(alloc, pieces) else {
         return Err(BatchFault::Memory);
     };
-    Ok(stale)
+    tables.verdict(alloc, stale).or(Err(BatchFault::Memory))
 }
