@@ -1,5 +1,5 @@
 -- Marks that are set one by one.
-use Rattle.std.proofs.Common.{rules, ◌≡◌, ◌∙◌, List, [], ◌∷◌, ◌++◌, Option, Some, None, refl, sym, ap, subst, arith, inl, inr}
+use Rattle.std.proofs.Common.{rules, ◌≡◌, ◌∙◌, List, [], ◌∷◌, ◌++◌, Some, None, sym, ap, subst, arith, inl, inr}
 use Rattle.std.specs.Prelude.{Contains}
 use Rattle.std.proofs.lemmas.List.{length_push}
 use Rattle.std.proofs.lemmas.List.Elements.{Contains-append_left, Contains-push, Contains-push_cases}
@@ -13,14 +13,6 @@ use Rattle.cops_report.proofs.Tables.{mark_at-other, mark_at-same, open-with_mar
 
 pub gains_none : (h : Sessions) (mark : Mark) (t : Table) (names : List OpName) → Gains h mark t t names names
 gains_none h mark t names = search rules
-
--- what has no mark later had none before
-still_none : (h : Sessions) (mark : Mark) (s t : Table) (names more : List OpName) (n : OpName) → Gains h mark s t names more → mark_at t n ≡ None → mark_at s n ≡ None
-still_none h mark s t names more n g none = go (mark_at s n) refl
-  where
-    go : (o : Option Mark) → mark_at s n ≡ o → mark_at s n ≡ None
-    go None e = e
-    go (Some m) e = (let k = g.kept n m e in absurd cc)
 
 pub gains_more : (h : Sessions) (mark : Mark) (s t u : Table) (names more most : List OpName) → Gains h mark s t names more → Gains h mark t u more most → Gains h mark s u names most
 gains_more h mark s t u names more most a b = search rules

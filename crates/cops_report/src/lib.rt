@@ -5,19 +5,15 @@
 #![tactic(auto)]
 
 mod chains;
-mod judged;
 mod laws;
 mod lines;
 mod marks;
 mod puts;
-mod reporting;
 mod reports;
 mod search;
 
 pub use chains::{chain, chain_by};
-pub use judged::report_judged;
 pub use laws::{chain_is_evidence, one_chain, past_has_a_chain};
 pub use lines::version_at;
 pub use puts::{from_version, put_table};
-pub use reporting::report_of;
-pub use reports::report;
+pub use reports::{report, report_judged, report_of};

@@ -3,15 +3,19 @@ ghost use Rattle.std.specs.List.{flat_map};
 ghost use Rattle.cops_types.specs.declared.op.OpName.{OpName};
 ghost use Rattle.cops_types.specs.Faults.{IsStale};
 ghost use Rattle.cops_types.specs.Counts.{count_of, put_count};
+ghost use Rattle.cops_types.specs.Histories.{Sessions};
+ghost use Rattle.cops_audit.specs.Judged.{IsJudged};
 ghost use Rattle.cops_audit.specs.Verdicts.{IsVerdict};
 ghost use Rattle.cops_audit.specs.declared.verdict.NotAbove.{NotAbove};
 ghost use Rattle.cops_audit.specs.declared.verdict.Stale.{Stale};
+ghost use Rattle.cops_audit.specs.declared.verdict.Verdict.{Verdict as AVerdict};
+ghost use Rattle.cops_report.specs.Reported.{IsReportOf};
 ghost use Rattle.cops_report.specs.Reports.{HasSomeVersion, IsRefusal, IsReport, IsStaleRefusal, accepted_line, named_line, not_above_line, refusal, refused_line};
 
 use crate::chains::chain_by;
 use crate::lines::{stale, version_at};
 use crate::puts::put_table;
-use cops_audit::{Faults, NotAbove, Stale, Verdict};
+use cops_audit::{Faults, Judged, NotAbove, Stale, Verdict, judge};
 use cops_types::{History, Memory, OpName};
 use std::alloc::{AllocError, Global};
 use std::fmt::Write;
@@ -122,4 +126,20 @@ pub fn report(alloc: Global, history: &History, verdict: &Verdict) -> Result<Vec
         Verdict::Accepted(_) => Ok(accepted(alloc, history)?.into_bytes()),
         Verdict::Refused(faults) => Ok(refusal(alloc, history, faults)?.into_bytes()),
     }
+}
+
+/// The report of the verdict on what clients saw. The only error is `Memory`, where memory runs out.
+pub fn report_of(alloc: Global, history: &History) -> Result<Vec<u8>, Memory>
+    ensures { IfOk result (λ text. (verdict : AVerdict) × IsReportOf history.now.sessions verdict text.items) }
+{
+    let verdict = judge(alloc, history)?;
+    Ok(report(alloc, history, &verdict)?)
+}
+
+/// The text of the verdict on a history of which only the sessions without their values are kept. It is the text of
+/// `report` for each history with these sessions. The only error is `Memory`, where memory runs out.
+pub fn report_judged(alloc: Global, judged: &Judged) -> Result<Vec<u8>, Memory>
+    ensures { (h : Sessions) → IsJudged h judged.now → IfOk result (λ text. IsReport h judged.now.verdict text.items) }
+{
+    report(alloc, judged.history(), judged.verdict())
 }

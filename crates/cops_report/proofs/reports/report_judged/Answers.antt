@@ -2,7 +2,7 @@ use Rattle.std.proofs.Common.{Vec, Global, subst}
 use Rattle.cops_audit.specs.declared.verdict.Verdict.{Verdict}
 use Rattle.cops_report.specs.Reports.{IsReport}
 use Rattle.cops_report.proofs.SameReports.{ok_too, one_report}
-use Rattle.cops_report.proofs.judged.report_judged.Goals as goal
+use Rattle.cops_report.proofs.reports.report_judged.Goals as goal
 
 pub returns : goal.returns
 returns c = λ h is.
