@@ -1,5 +1,5 @@
 -- What a finished search says about chains.
-use Rattle.std.proofs.Common.{◌≡◌, ◌≢◌, ◌∙◌, ◌+◌, ◌<◌, ◌≤◌, ℕ, List, [], ◌∷◌, ◌++◌, length, Some, None, refl, sym, ap, subst, arith, inl, inr, append_assoc}
+use Rattle.std.proofs.Common.{◌≡◌, ◌≢◌, ◌∙◌, ◌+◌, ◌<◌, ◌≤◌, ◌⊎◌, ℕ, List, [], ◌∷◌, ◌++◌, length, Some, None, refl, sym, ap, subst, arith, inl, inr, append_assoc}
 use Rattle.std.proofs.lemmas.Bool.{cases_lt}
 use Rattle.std.proofs.lemmas.List.{append-nil}
 use Rattle.cops_types.specs.declared.op.OpName.{OpName}
@@ -13,34 +13,26 @@ use Rattle.cops_report.specs.Searches.{Follows, HasSteps, IsFound, IsSearch, IsW
 use Rattle.cops_report.proofs.SearchLemmas.{one_steps}
 use Rattle.cops_report.proofs.StepLemmas.{first_named}
 
--- a name from which k steps lead to the end has at most k steps, as far as the search has gone
-reaches : (h : Sessions) (to : OpName) (t : Table) (d : ℕ) → IsSearch h to t d [] → (rest : List OpName) (a : OpName) → LeadsTo h to a rest → length rest ≤ d
-    → (j : ℕ) × HasSteps t a j × (j ≤ length rest)
-reaches h to t d i [] a leads le = (0, subst (λ (x : OpName). HasSteps t x 0) (sym leads) i.root, omega arith)
-reaches h to t d i (b ∷ rest) a leads le =
-    let on = reaches h to t d i rest b leads.1 (omega arith) in
-    let low : on.0 < d = omega (arith, on.2) in
+-- a name from which k steps lead to the end has at most k steps, as far as the search has gone, or without limit where all that is marked has fewer steps
+reaches : (h : Sessions) (to : OpName) (t : Table) (d : ℕ) → IsSearch h to t d [] → (rest : List OpName) (a : OpName) → LeadsTo h to a rest
+    → length rest ≤ d ⊎ ((n : OpName) (k : ℕ) → HasSteps t n k → k < d) → (j : ℕ) × HasSteps t a j × (j ≤ length rest)
+reaches h to t d i [] a leads why = (0, subst (λ (x : OpName). HasSteps t x 0) (sym leads) i.root, omega arith)
+reaches h to t d i (b ∷ rest) a leads why =
+    let on = reaches h to t d i rest b leads.1 (elim why [ inl le ↦ inl (omega arith) | inr low ↦ inr low ]) in
+    let below : on.0 < d = elim why [ inl le ↦ omega (arith, on.2) | inr low ↦ low b on.0 on.1 ] in
     let more = i.near a b on.0 on.1 (omega arith) (λ e. absurd (omega arith)) leads.0 in
     (more.0, more.1, omega (arith, more.2, on.2))
 
 -- where the search has ended, all such names are marked
 reaches_all : (h : Sessions) (to : OpName) (t : Table) (d : ℕ) → IsSearch h to t d [] → ((n : OpName) → ¬ HasSteps t n (d + 1)) → ((n : OpName) → ¬ HasSteps t n d)
     → (rest : List OpName) (a : OpName) → LeadsTo h to a rest → IsMarked t a
-reaches_all h to t d i fresh empty rest a leads = (let r = go rest a leads in (r.1.0, r.1.1))
+reaches_all h to t d i fresh empty rest a leads = (let r = reaches h to t d i rest a leads (inr low) in (r.1.0, r.1.1))
   where
     low : (n : OpName) (k : ℕ) → HasSteps t n k → k < d
     low n k has =
         let below : k ≢ d = λ e. empty n (subst (HasSteps t n) e has) in
         let top : k ≢ d + 1 = λ e. fresh n (subst (HasSteps t n) e has) in
         omega (arith, i.bound n k has)
-
-    go : (rest : List OpName) (a : OpName) → LeadsTo h to a rest → (j : ℕ) × HasSteps t a j
-    go [] a leads = (0, subst (λ (x : OpName). HasSteps t x 0) (sym leads) i.root)
-    go (b ∷ rest) a leads =
-        let on = go rest b leads.1 in
-        let below = low b on.0 on.1 in
-        let more = i.near a b on.0 on.1 (omega arith) (λ e. absurd (omega arith)) leads.0 in
-        (more.0, more.1)
 
 -- the names that follow along the marks are a chain, with as many steps as the first mark says
 follows_leads : (h : Sessions) (to : OpName) (t : Table) (d : ℕ) → IsSearch h to t d [] → (rest : List OpName) (a : OpName) → Follows t to a rest → LeadsTo h to a rest × HasSteps t a (length rest)
@@ -64,7 +56,7 @@ follows_first h to t d i (b ∷ rest) a f le (c ∷ others) leads same =
     let low : k < d = omega arith in
     let short : length others ≡ k = omega arith in
     let own = (follows_leads h to t d i (b ∷ rest) a f).1 in
-    let on = reaches h to t d i others c leads.1 (omega arith) in
+    let on = reaches h to t d i others c leads.1 (inl (omega arith)) in
     let below : on.0 < d = omega (arith, on.2) in
     let more = i.near a c on.0 on.1 (omega arith) (λ e. absurd (omega arith)) leads.0 in
     let is : more.0 ≡ length (b ∷ rest) = one_steps t a more.0 (length (b ∷ rest)) more.1 own in
@@ -109,7 +101,7 @@ first_chain h from to t found named (n ∷ rest) walk = record {
     shortest [] c = absurd c
     shortest (m ∷ others) c = elim (cases_lt (length others) (length rest)) [
       | inl lt ↦
-          let r = reaches h to t found.depth i others n (at_n m others c.0 c.2) (omega (arith, near)) in
+          let r = reaches h to t found.depth i others n (at_n m others c.0 c.2) (inl (omega (arith, near))) in
           let same = one_steps t n r.0 (length rest) r.1 leads.1 in
           absurd (omega (arith, r.2, same))
       | inr ge ↦ omega arith
