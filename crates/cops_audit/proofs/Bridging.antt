@@ -1,6 +1,6 @@
 -- What causal summaries say of a history, for sweeps: steps, pasts and newest puts.
-use Rattle.std.proofs.Common.{rules, ◌≡◌, ◌<◌, ◌≤◌, ℕ, zero, suc, List, [], ◌∷◌, length, get_or, Some, refl, ◌∙◌, ap, subst, inl, inr, arith, slice_index_or, slice_get}
-use Rattle.std.proofs.lemmas.Bool.{cases_lt}
+use Rattle.std.proofs.Common.{rules, ◌≡◌, ◌<◌, ◌≤◌, ℕ, List, [], length, get_or, Some, ◌∙◌, ap, subst, inl, inr, arith, slice_index_or, slice_get}
+use Rattle.std.proofs.lemmas.Option.{slice_get_within}
 use Rattle.cops_types.specs.declared.op.OpName.{OpName}
 use Rattle.cops_types.specs.Histories.{Sessions, IsNamed, SourceStep}
 use Rattle.cops_types.specs.Past.{Step, Past, step, more}
@@ -26,34 +26,22 @@ use Rattle.cops_audit.specs.Floors.{IsSummarizedSuspect}
 use Rattle.cops_audit.specs.Windows.{HasFirst, IsSuspect}
 use Rattle.cops_audit.proofs.Clearing.{stands_for}
 use Rattle.cops_audit.proofs.Learning.{one_put_at}
-use Rattle.cops_audit.proofs.Listing.{slice_get_there}
-use Rattle.cops_audit.proofs.Marks.{slice_get_inside}
+use Rattle.cops_audit.proofs.Listing.{in_lists, slice_get_there}
 use Rattle.cops_audit.proofs.Summarizing.{summary_there, session_of}
 use Rattle.cops_audit.proofs.PastMarks.{put_mark}
 use Rattle.cops_audit.proofs.Places.{inside_table, place_rises, put_there, same_place}
 use Rattle.cops_audit.proofs.Reading.{says, seen_got, seen_put}
 use Rattle.cops_audit.proofs.Unique.{stands}
 
-pub past_end : {A : Type 0} (xs : List A) (i : ℕ) (d : A) → length xs ≤ i → get_or xs i d ≡ d
-past_end [] i d le = refl
-past_end (x ∷ xs) zero d le = absurd (omega (arith, le))
-past_end (x ∷ xs) (suc i) d le = past_end xs i d (omega (arith, le))
-
 module _ (h : Sessions) (table : List VersionedPut) (t : IsVersionTable h table) (summaries : List (List Summary)) (summarized : IsSummarized h table summaries) where
   pub all_marks : (client : ℕ) → AreMarks (slice_index_or summaries client [])
-  all_marks client i summary at = elim (cases_lt client (length h)) [
-    | inl inside ↦ (summarized.sessions client inside).marks i summary at
-    | inr le ↦
-        let none : slice_index_or summaries client [] ≡ [] = past_end summaries client [] (omega (arith, le, summarized.clients)) in
-        let less = slice_get_inside (slice_index_or summaries client []) i summary at in
-        absurd (omega (arith, less, ap length none))
-  ]
+  all_marks client i summary at = (summarized.sessions client (omega (arith, in_lists summaries client i summary at, summarized.clients))).marks i summary at
 
   -- a summary is of an operation of the history
   summarized_named : (n : OpName) (summary : Summary) → summary_at summaries n ≡ Some summary → IsNamed h n
   summarized_named n summary at =
       let session = session_of h table summaries summarized n summary at in
-      slice_get_there (slice_index_or h n.client []) n.index (omega (arith, session.whole, slice_get_inside (slice_index_or summaries n.client []) n.index summary at))
+      slice_get_there (slice_index_or h n.client []) n.index (omega (arith, session.whole, slice_get_within (slice_index_or summaries n.client []) n.index summary at))
 
   module _ (sources : HaveSourcesOrWait h) where
     -- the summary of a put at a place
@@ -75,7 +63,7 @@ module _ (h : Sessions) (table : List VersionedPut) (t : IsVersionTable h table)
       seen_sourceless = λ name place mark at. (says h table t summaries summarized name (record { seen = Sourceless place; mark = mark }) at).1.inside;
       small = λ name summary at.
           let session = session_of h table summaries summarized name summary at in
-          omega (arith, slice_get_inside (slice_index_or summaries name.client []) name.index summary at, session.whole, limits.each name.client);
+          omega (arith, slice_get_within (slice_index_or summaries name.client []) name.index summary at, session.whole, limits.each name.client);
       few = t.table.few;
     }
 
@@ -122,7 +110,7 @@ pub are_places : (h : Sessions) (table : List VersionedPut) → IsVersionTable h
 are_places h table t firsts are = record {
   whole = are.whole;
   inside = λ place first at.
-      let in_table : place < length table = omega (arith, slice_get_inside firsts place first at, are.whole) in
+      let in_table : place < length table = omega (arith, slice_get_within firsts place first at, are.whole) in
       let d : VersionedPut = record { version = 0; name = record { client = 0; index = 0 } } in
       let key = key_at h table t place (get_or table place d).name (get_or table place d).version (stands table place d in_table) in
       let on = (are.each place first key.0 at key.1).on_key in
@@ -182,11 +170,4 @@ is_analysis a table keys same nexts by_key firsts is summarized linked sources a
 
 -- the put at a place is in one of the sessions
 pub put_inside : (table : List VersionedPut) (summaries : List (List Summary)) → AreRising table summaries → (place : ℕ) (put : OpName) (version : ℕ) → StandsAt table place put version → put.client < length summaries
-put_inside table summaries rising place put version stands = elim (cases_lt put.client (length summaries)) [
-  | inl less ↦ less
-  | inr le ↦
-      let own = rising.puts place put version stands in
-      let none : slice_index_or summaries put.client [] ≡ [] = past_end summaries put.client [] le in
-      let less = slice_get_inside (slice_index_or summaries put.client []) put.index _ own.1 in
-      absurd (omega (arith, less, ap length none))
-]
+put_inside table summaries rising place put version stands = in_lists summaries put.client put.index _ (rising.puts place put version stands).1

@@ -1,6 +1,6 @@
 -- The classes of faults, by causal summaries and suspects.
-use Rattle.std.proofs.Common.{◌≡◌, ◌≢◌, ◌<◌, ◌≤◌, ◌+◌, ℕ, List, [], ◌∷◌, length, get_or, map, refl, sym, ◌∙◌, ap, subst, inl, inr, arith, Contains}
-use Rattle.std.proofs.lemmas.List.{length-map, get_or-map}
+use Rattle.std.proofs.Common.{◌≡◌, ◌≢◌, ◌<◌, ◌≤◌, ◌+◌, ℕ, List, [], length, get_or, map, refl, sym, ◌∙◌, ap, subst, inl, inr, arith, Contains}
+use Rattle.std.proofs.lemmas.List.{nil_from_length, length-map, get_or-map}
 use Rattle.std.proofs.lemmas.List.Elements.{Contains-get_or}
 use Rattle.cops_types.specs.declared.op.OpName.{OpName}
 use Rattle.cops_types.specs.Histories.{Sessions, IsNamed}
@@ -25,10 +25,6 @@ use Rattle.cops_audit.proofs.Reading.{sourceless_same}
 -- where each get has a source, none waits
 pub sourced_wait : (h : Sessions) → AllHaveSources h → HaveSourcesOrWait h
 sourced_wait h sources n f = absurd (sources n f)
-
-pub empty_list : {A : Type 0} (xs : List A) → length xs ≡ 0 → xs ≡ []
-empty_list [] e = refl
-empty_list (x ∷ xs) e = absurd (omega (arith, e))
 
 -- the operation of a suspect is among the suspects' operations
 pub op_listed : (suspects : List Suspect) (s : Suspect) → Contains suspects s → Contains (map (λ (x : Suspect). x.op) suspects) s.op
@@ -67,7 +63,7 @@ of_suspects {names = names} {suspects = suspects} are lists = record {
 pub no_stale : {h : Sessions} {table : List VersionedPut} {names : List OpName} {suspects : List Suspect} {faults : List Stale} → AreSuspects h table names suspects → length suspects ≡ 0 → faults ≡ []
     → ListsAmong (λ f. f.op) (λ f. IsStale h f.op f.newer) names faults
 no_stale {h} {table} {names} {suspects} are none empty =
-    let nothing = subst (AreSuspects h table names) (empty_list suspects none) are in
+    let nothing = subst (AreSuspects h table names) (nil_from_length suspects none) are in
     subst (ListsAmong (λ f. f.op) (λ f. IsStale h f.op f.newer) names) (sym empty) (of_suspects nothing (among_none {A = Stale} (λ f. f.op) (λ f. IsStale h f.op f.newer)))
 
 module _ (h : Sessions) (names : List OpName) (all : Lists (λ n. n) (IsNamed h) names) where

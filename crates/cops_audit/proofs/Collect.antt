@@ -1,9 +1,9 @@
 -- A loop over the names that collects the faults of a class.
-use Rattle.std.proofs.Common.{rules, ◌≡◌, ◌<◌, ◌≤◌, ◌+◌, ◌↔◌, ℕ, zero, suc, List, [], ◌∷◌, ◌++◌, length, get_or, take, take_all, refl, sym, ◌∙◌, ap, subst, inl, inr, arith, Contains, AllPairs}
+use Rattle.std.proofs.Common.{rules, ◌≡◌, ◌<◌, ◌≤◌, ◌+◌, ◌↔◌, ℕ, List, [], ◌∷◌, ◌++◌, length, get_or, take, take_all, sym, ◌∙◌, ap, subst, inl, inr, arith, Contains, AllPairs}
 use Rattle.std.proofs.Math.Nat.{eq-or-lt_of_le}
 use Rattle.std.proofs.lemmas.List.Quantifiers.{all_pairs_push}
 use Rattle.std.proofs.lemmas.List.Elements.{Contains-append_left, Contains-push, Contains-push_cases, Contains-get_or}
-use Rattle.std.proofs.lemmas.List.{take_more}
+use Rattle.std.proofs.lemmas.List.{take_more, get_or_default}
 use Rattle.std.proofs.Common.{append_assoc, append-nil, get_or-take, length-append, length-take}
 use lib.ListN.{get_or-append}
 use lib.Seq.{get_or-append_seam}
@@ -58,9 +58,7 @@ module _ {A : Type 0} (name_of : A → OpName) (IsFault : A → Type 0) where
   among_all names faults lists named = search rules
 
 pub get_or-default : {A : Type 0} (xs : List A) (i : ℕ) (d e : A) → i < length xs → get_or xs i d ≡ get_or xs i e
-get_or-default [] i d e inside = absurd (omega (arith, inside))
-get_or-default (x ∷ xs) zero d e inside = refl
-get_or-default (x ∷ xs) (suc i) d e inside = get_or-default xs i d e (omega (arith, inside))
+get_or-default xs i d e inside = get_or_default xs i d e inside
 
 -- an element, read with another default
 pub item_at : {A : Type 0} (xs : List A) (i : ℕ) (x d : A) → i < length xs → x ≡ get_or xs i x → get_or xs i d ≡ x

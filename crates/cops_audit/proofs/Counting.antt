@@ -4,8 +4,8 @@ use Rattle.std.proofs.Math.Nat.{eq-or-lt_of_le}
 use Rattle.std.proofs.lemmas.Bool.{cases_lt}
 use Rattle.std.proofs.lemmas.List.Quantifiers.{all_pairs_push}
 use Rattle.std.proofs.lemmas.List.Elements.{Contains-append_left, Contains-push, Contains-push_cases, Contains-get_or}
+use Rattle.std.proofs.lemmas.List.{get_or_past}
 use Rattle.cops_audit.specs.Searches.{ListsCounts}
-use Rattle.cops_audit.proofs.Bridging.{past_end}
 
 -- the counts of the first clients
 pub record CountsTo (counts : List ℕ) (pairs : List (ℕ × ℕ)) (clients : ℕ) : Type 0 where
@@ -54,7 +54,7 @@ module _ (counts : List ℕ) where
       (λ at. let o = (was.members client count).0 at in (o.1, o.2)),
       (λ w. elim (cases_lt client i) [
         | inl less ↦ (was.members client count).1 (less, w.0, w.1)
-        | inr le ↦ absurd (omega (arith, past_end counts client 0 (omega (arith, enough, le)), w.0, w.1))
+        | inr le ↦ absurd (omega (arith, get_or_past counts client 0 (omega (arith, enough, le)), w.0, w.1))
       ]),
     );
     in_order = was.in_order;

@@ -1,13 +1,13 @@
 -- The puts that have the version of another put, by their numbers.
 use Rattle.std.proofs.Common.{◌≡◌, ◌<◌, ◌+◌, ◌↔◌, ℕ, List, Bool, Some, true, false, length, slice_get, slice_index_or, slice_set, get_or-set_same, get_or-set_other, sym, ap, subst, ◌∙◌, inl, inr, arith}
 use Rattle.std.proofs.lemmas.Bool.{cases_eq}
+use Rattle.std.proofs.lemmas.Option.{slice_get_within}
 use Rattle.cops_types.specs.declared.op.OpName.{OpName}
 use Rattle.cops_types.specs.declared.versioned_put.VersionedPut.{VersionedPut}
 use Rattle.cops_types.specs.Recorded.{Recorded}
 use Rattle.cops_types.specs.VersionOrder.{IsDoubled}
 use Rattle.cops_audit.specs.Tables.{AreDoubledPuts, ReportDoubled}
 use Rattle.cops_audit.proofs.Collect.{get_or-default}
-use Rattle.cops_audit.proofs.Marks.{slice_get_inside}
 
 -- one of the first k puts has this name
 abbrev pub NamedBelow : List VersionedPut → ℕ → OpName → Type 0
@@ -28,7 +28,7 @@ module _ (puts : List OpName) (xs : List VersionedPut) (k : ℕ) (inside : k < l
         let both : Some x.name ≡ Some name = sym at ∙ ap (slice_get puts) (sym same) ∙ named in
         let one : x.name ≡ name = cc in
         let set : slice_index_or (slice_set flags m true) n false ≡ true = ap (λ (j : ℕ). slice_index_or (slice_set flags m true) j false) same
-        ∙ get_or-set_same flags m true false (omega (arith, slice_get_inside puts m x.name at, len)) in
+        ∙ get_or-set_same flags m true false (omega (arith, slice_get_within puts m x.name at, len)) in
         ((λ _. (k, omega arith, λ d. named_here d ∙ one)), (λ _. set))
     | inr differs ↦
         let kept = get_or-set_other flags m n true false differs in

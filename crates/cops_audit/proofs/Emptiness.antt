@@ -1,6 +1,7 @@
 -- A class of faults is empty or not; and the order of versions.
-use Rattle.std.proofs.Common.{rules, ◌≡◌, ◌≢◌, ◌<◌, ℕ, zero, suc, List, [], ◌∷◌, length, get_or, map, eqb, Bool, true, false, Some, sym, ◌∙◌, ap, subst, arith, slice_get, Contains}
+use Rattle.std.proofs.Common.{rules, ◌≡◌, ◌≢◌, ◌<◌, ℕ, List, [], length, get_or, map, eqb, Bool, true, false, Some, sym, ◌∙◌, ap, subst, arith, slice_get, Contains}
 use Rattle.std.proofs.lemmas.List.{length-map, get_or-map}
+use Rattle.std.proofs.lemmas.Option.{get_or_from_slice_get, slice_get_within}
 use Rattle.cops_types.specs.declared.op.OpName.{OpName}
 use Rattle.cops_types.specs.Histories.{Sessions, Puts, PutsVersion}
 use Rattle.cops_types.specs.Convergence.{StandsBefore}
@@ -19,9 +20,7 @@ module _ {A : Type 0} (name_of : A → OpName) (IsFault : A → Type 0) (faults 
   some_there is_some test len same = search rules
 
 pub at_index : {A : Type 0} (xs : List A) (i : ℕ) (x d : A) → slice_get xs i ≡ Some x → (i < length xs) × (get_or xs i d ≡ x)
-at_index [] i x d e = absurd cc
-at_index (y ∷ ys) zero x d e = (omega arith, let s : y ≡ x = cc in s)
-at_index (y ∷ ys) (suc i) x d e = let r = at_index ys i x d e in (omega (arith, r.0), r.1)
+at_index xs i x d e = (slice_get_within xs i x e, get_or_from_slice_get xs i x d e)
 
 -- the names of a table of puts, which is in order of versions
 pub order_of_table : (h : Sessions) (table : List VersionedPut) → IsVersionTable h table → IsVersionOrder h (map (λ p. p.name) table)

@@ -1,7 +1,8 @@
 -- Accepted exactly where convergent with the version order.
-use Rattle.std.proofs.Common.{rules, ◌≡◌, ◌≢◌, ◌<◌, ◌⊎◌, ℕ, zero, suc, List, [], ◌∷◌, Bool, true, false, Option, Some, refl, sym, ◌∙◌, ap, subst, inl, inr, arith, slice_get, Contains}
+use Rattle.std.proofs.Common.{rules, ◌≡◌, ◌≢◌, ◌<◌, ◌⊎◌, ℕ, List, [], ◌∷◌, Option, Some, refl, sym, subst, inl, inr, arith, slice_get, Contains, length}
+use Rattle.std.proofs.lemmas.Option.{slice_get_read, slice_get_within, get_or_from_slice_get}
 use Rattle.cops_types.specs.declared.op.OpName.{OpName}
-use Rattle.cops_types.specs.Histories.{Sessions, op_at, IsGot, IsMissed, PutsVersion, SessionStep, SourceStep, write}
+use Rattle.cops_types.specs.Histories.{Sessions, IsGot, IsMissed, PutsVersion, SessionStep, SourceStep, write}
 use Rattle.cops_types.specs.Past.{Step, Past, step, more}
 use Rattle.cops_types.specs.Convergence.{Order, Precedes, IsCausalOrder, StandsBefore, IsArbitration, ReturnsLast, Explains, ConvergesBy}
 use Rattle.cops_types.specs.Verdicts.{AllHaveSources, IsAccepted}
@@ -9,24 +10,17 @@ use Rattle.cops_types.specs.VersionOrder.{IsVersionOrder, NoneDoubled}
 use Rattle.cops_types.specs.Faults.{IsNotBelow, IsNewer}
 use Rattle.cops_audit.proofs.Acyclic.{VersionsRise, one_version, irreflexive, past_below}
 use Rattle.cops_audit.proofs.Firsts.{versions_rise, none_newer}
-use Rattle.cops_audit.proofs.Reach.{Mem}
-use Rattle.cops_audit.proofs.Members.{names_of, is_named}
-use Rattle.cops_audit.proofs.PastOrder.{past_order, precedes_past, past_precedes, past_joined, source_test, source_reported, source_passes}
+use Rattle.cops_audit.specs.Names.{names_of}
+use Rattle.cops_audit.proofs.Naming.{names_listed}
+use Rattle.cops_audit.proofs.Listing.{first_or_later}
+use Rattle.cops_audit.proofs.PastOrder.{past_order, precedes_past, past_precedes, past_joined, source_cases}
 
 -- a place in a list, and that the list has the element
 place_of : {A : Type 0} (xs : List A) (x : A) → Contains xs x → (i : ℕ) × (slice_get xs i ≡ Some x)
-place_of [] x at = absurd (omega (arith, at.1))
-place_of (y ∷ ys) x (zero, small, same) = (zero, ap Some same)
-place_of (y ∷ ys) x (suc k, small, same) =
-    let p = place_of ys x (k, omega (arith, small), same) in
-    (suc p.0, p.1)
+place_of xs x at = (at.0, slice_get_read xs (length xs) at.0 x refl at.1 (sym at.2))
 
 has_place : {A : Type 0} (xs : List A) (i : ℕ) (x : A) → slice_get xs i ≡ Some x → Contains xs x
-has_place [] i x e = absurd cc
-has_place (y ∷ ys) zero x e = (zero, omega arith, let s : y ≡ x = cc in s)
-has_place (y ∷ ys) (suc i) x e =
-    let p = has_place ys i x e in
-    (suc p.0, omega (arith, p.1), p.2)
+has_place xs i x e = (i, slice_get_within xs i x e, get_or_from_slice_get xs i x x e)
 
 one_element : {A : Type 0} (xs : List A) (i j : ℕ) (x y : A) → slice_get xs i ≡ Some x → slice_get xs j ≡ Some y → i ≡ j → x ≡ y
 one_element xs i j x y e f g = search rules
@@ -46,22 +40,15 @@ module _ (h : Sessions) (names : List OpName) (by_version : IsVersionOrder h nam
       omega (arith, by_version.rising p p put.0 put.0 twice put.1 put.1)
 
 -- a get's source is found, where there is one
-find_source : (h : Sessions) (got : OpName) (names : List OpName) → ((s : OpName) × SourceStep h s got) ⊎ ((s : OpName) → Mem s names → ¬ SourceStep h s got)
-find_source h got [] = inr (λ s there _. there)
-find_source h got (n ∷ ns) = by_test (source_test (op_at h n) (op_at h got)) refl (find_source h got ns)
-  where
-    by_test : (t : Bool) → t ≡ source_test (op_at h n) (op_at h got)
-        → ((s : OpName) × SourceStep h s got) ⊎ ((s : OpName) → Mem s ns → ¬ SourceStep h s got)
-        → ((s : OpName) × SourceStep h s got) ⊎ ((s : OpName) → Mem s (n ∷ ns) → ¬ SourceStep h s got)
-    by_test true e rest =
-        let t = source_reported (op_at h n) (op_at h got) (sym e) in
-        inl (n, record { key = t.0; content = t.1; version = t.2; put = t.3; got = t.4 })
-    by_test false e (inl found) = inl found
-    by_test false e (inr none) = inr (λ s there is_source. elim there [
-      | inl same ↦ let passes = source_passes h s got is_source in
-          let fails : source_test (op_at h s) (op_at h got) ≡ false = ap (λ x. source_test (op_at h x) (op_at h got)) same ∙ sym e in cc
-      | inr later ↦ none s later is_source
-    ])
+find_source : (h : Sessions) (got : OpName) (names : List OpName) → ((s : OpName) × SourceStep h s got) ⊎ ((s : OpName) → Contains names s → ¬ SourceStep h s got)
+find_source h got [] = inr (λ s there is. omega (arith, there.1))
+find_source h got (n ∷ ns) = elim (source_cases h n got) [
+  | inl is ↦ inl (n, is)
+  | inr differs ↦ elim (find_source h got ns) [
+    | inl found ↦ inl found
+    | inr none ↦ inr (λ s there is. elim (first_or_later n ns s there) [ inl same ↦ differs (subst (λ x. SourceStep h x got) (sym same) is) | inr later ↦ none s later is ])
+  ]
+]
 
 pub source_of : (h : Sessions) → AllHaveSources h → (got : OpName) (key : List ℕ) (content : Option (List ℕ)) (version : ℕ) → IsGot h got key content version → (s : OpName) × SourceStep h s got
 source_of h sourced got key content version is_got = elim (find_source h got (names_of h)) [
@@ -71,8 +58,7 @@ source_of h sourced got key content version is_got = elim (find_source h got (na
     content = content;
     version = version;
     got = is_got;
-    none = λ s is_source.
-        none s (is_named h s _ is_source.put) is_source;
+    none = λ s is. none s (((names_listed h).members s).1 (_, is.put)) is;
   }))
 ]
 

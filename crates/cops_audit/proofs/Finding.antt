@@ -8,7 +8,7 @@ use Rattle.cops_audit.specs.declared.sweep.Sweep.{Sweep}
 use Rattle.cops_audit.specs.Searches.{Finds, IsPast, IsSearching, ListsCounts, TakesSources}
 use Rattle.cops_audit.specs.Sweeps.{Counted, IsFresh, Raises}
 use Rattle.cops_audit.proofs.Closing.{none_in_nothing}
-use Rattle.cops_audit.proofs.Searching.{past_through}
+use Rattle.cops_audit.proofs.PastOrder.{past_joined}
 use Rattle.cops_audit.proofs.Flooring.{zero_at}
 
 module _ (h : Sessions) (op : OpName) where
@@ -47,7 +47,7 @@ module _ (h : Sessions) (op : OpName) where
   pub found_past : (begun found : Sweep) → Finds h begun found → ((n : OpName) → Counted begun.counts n → Past h n op) → (n : OpName) → Counted found.counts n → Past h n op
   found_past begun found finds was n there = elim (finds.past n there) [
     | inl before ↦ was n before
-    | inr w ↦ past_through h n w.0 w.2 (was w.0 w.1)
+    | inr w ↦ past_joined h n w.0 _ w.2 (was w.0 w.1)
   ]
 
   module _ (s : Sweep) (searching : IsSearching h s (λ _. ⊥)) (empty : s.pending.items ≡ []) where

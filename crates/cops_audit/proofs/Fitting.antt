@@ -3,13 +3,13 @@ use Rattle.std.proofs.Common.{rules, ◌≡◌, ◌<◌, ◌≤◌, ◌+◌, ℕ
 use Rattle.std.specs.Prelude.{sum_by, vec_len, vec_capacity}
 use Rattle.std.proofs.Math.ListN.{length-set}
 use Rattle.std.proofs.lemmas.List.Sums.{sum_by-set, sum_by-cons}
+use Rattle.std.proofs.lemmas.Option.{slice_get_within}
 use Rattle.cops_types.specs.declared.op.OpName.{OpName}
 use Rattle.cops_audit.specs.declared.summaries.Summary.{Summary}
 use Rattle.cops_audit.specs.declared.sweep.Sweep.{Sweep}
 use Rattle.cops_types.specs.declared.versioned_put.VersionedPut.{VersionedPut}
 use Rattle.cops_audit.specs.Summaries.{summary_at}
 use Rattle.cops_audit.specs.Sweeps.{AreRising, Covers, HasRoom}
-use Rattle.cops_audit.proofs.Marks.{slice_get_inside}
 
 -- a list that is lower at each place has the lower sum
 sum_less : (xs ys : List ℕ) → length xs ≡ length ys → ((i : ℕ) → get_or xs i 0 ≤ get_or ys i 0) → sum_by (λ n. n) xs ≤ sum_by (λ n. n) ys
@@ -43,7 +43,7 @@ length_at (x ∷ xs) (suc i) = length_at xs i
 
 -- an operation with a summary is in its session
 pub summarized_inside : (summaries : List (List Summary)) (name : OpName) (summary : Summary) → summary_at summaries name ≡ Some summary → name.index < get_or (map length summaries) name.client 0
-summarized_inside summaries name summary at = omega (arith, slice_get_inside (slice_index_or summaries name.client []) name.index summary at, length_at summaries name.client)
+summarized_inside summaries name summary at = omega (arith, slice_get_within (slice_index_or summaries name.client []) name.index summary at, length_at summaries name.client)
 
 pub covered : (table : List VersionedPut) (summaries : List (List Summary)) → AreRising table summaries → Covers (map length summaries) table
 covered table summaries rising place put version stands = let there = rising.puts place put version stands in summarized_inside summaries put _ there.1

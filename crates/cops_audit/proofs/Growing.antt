@@ -1,11 +1,11 @@
 -- Room for a history that grows.
-use Rattle.std.proofs.Common.{◌≡◌, ◌<◌, ℕ, suc, List, [], ◌∷◌, length, get_or, replicate, map, Vec, Global, refl, sym, ◌∙◌, ap, inl, inr, arith, false, slice_index_or}
+use Rattle.std.proofs.Common.{◌≡◌, ℕ, suc, List, [], ◌∷◌, length, get_or, replicate, map, Vec, Global, refl, sym, ◌∙◌, ap, inl, inr, arith, false, slice_index_or}
 use Rattle.std.specs.Prelude.{Result, Ok, Err, OnOk, sum_by, vec_capacity}
 use Rattle.std.specs.Result.{is_err}
 use Rattle.std.proofs.lemmas.Bool.{cases_lt}
-use Rattle.std.proofs.lemmas.List.{length-map, length-replicate}
+use Rattle.std.proofs.lemmas.List.{get_or_past, length-map, length-replicate}
 use Rattle.std.proofs.lemmas.List.Sums.{sum_by-cons}
-use Rattle.cops_types.specs.Histories.{Sessions, Operation}
+use Rattle.cops_types.specs.Histories.{Sessions}
 use Rattle.cops_types.specs.Counts.{count_of}
 use Rattle.cops_audit.specs.declared.summaries.Summary.{Summary}
 use Rattle.cops_audit.specs.declared.room.Scratch.{Scratch}
@@ -15,13 +15,7 @@ use Rattle.cops_types.specs.declared.versioned_put.VersionedPut.{VersionedPut}
 use Rattle.cops_audit.specs.Summaries.{IsSummarized}
 use Rattle.cops_audit.specs.Rooms.{IsReady}
 use Rattle.cops_audit.specs.Sweeps.{HasRoom, IsFresh}
-use Rattle.cops_audit.proofs.Bridging.{past_end}
 use Rattle.cops_audit.proofs.Flooring.{zero_at}
-
--- a client gets its next operation
-module _ (h : Sessions) (client : ℕ) (op : Operation) (inside : client < length h) where
-  abbrev own : List Operation
-  own = slice_index_or h client []
 
 -- what holds where it succeeds, where it is no error
 pub succeeded : {T E : Type 0} (r : Result T E) (P : Type 0) → OnOk r P → false ≡ is_err r → P
@@ -33,7 +27,7 @@ as_long : (h : Sessions) (table : List VersionedPut) (summaries : List (List Sum
     → (c : ℕ) → length (slice_index_or summaries c []) ≡ length (slice_index_or h c [])
 as_long h table summaries summarized c = elim (cases_lt c (length h)) [
   | inl inside ↦ (summarized.sessions c inside).whole
-  | inr le ↦ ap length (past_end summaries c [] (omega (arith, le, summarized.clients))) ∙ sym (ap length (past_end h c [] le))
+  | inr le ↦ ap length (get_or_past summaries c [] (omega (arith, le, summarized.clients))) ∙ sym (ap length (get_or_past h c [] le))
 ]
 
 -- there are as many summaries as operations

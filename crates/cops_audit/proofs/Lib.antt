@@ -2,7 +2,6 @@ pub mod Acyclic
 pub mod Firsts
 pub mod Ascending
 pub mod Reach
-pub mod Members
 pub mod PastOrder
 pub mod Exact
 pub mod Listing
@@ -10,7 +9,6 @@ pub mod Naming
 pub mod Collect
 pub mod Filtering
 pub mod Ranges
-pub mod Sorting
 pub mod Emptiness
 pub mod Unique
 pub mod Consequences
@@ -45,5 +43,4 @@ pub mod Finding
 pub mod Continuing
 pub mod Lasting
 pub mod Growing
-pub mod FaultLemmas
 pub mod Sourcing

@@ -1,5 +1,6 @@
 -- The mark of a session: what its operations saw is below it.
 use Rattle.std.proofs.Common.{rules, ◌≡◌, ◌<◌, ◌≤◌, ◌+◌, ◌⊎◌, ℕ, zero, suc, List, [], ◌∷◌, ◌++◌, length, Some, refl, sym, ◌∙◌, ap, subst, inl, inr, arith, slice_get}
+use Rattle.std.proofs.lemmas.Option.{slice_get_within}
 use Rattle.cops_audit.specs.declared.summaries.Summary.{Summary}
 use Rattle.cops_audit.specs.Summaries.{above, IsMark}
 
@@ -19,11 +20,6 @@ pub slice_get_last : {A : Type 0} (xs : List A) (y : A) → slice_get (xs ++ y �
 slice_get_last [] y = refl
 slice_get_last (x ∷ xs) y = slice_get_last xs y
 
-pub slice_get_inside : {A : Type 0} (xs : List A) (i : ℕ) (x : A) → slice_get xs i ≡ Some x → i < length xs
-slice_get_inside [] i x e = absurd cc
-slice_get_inside (y ∷ ys) zero x e = omega arith
-slice_get_inside (y ∷ ys) (suc i) x e = omega (arith, slice_get_inside ys i x e)
-
 -- one more operation leaves the marks before it as they are
 pub mark_kept : (session : List Summary) (summary : Summary) (count mark : ℕ) → count ≤ length session → IsMark session count mark → IsMark (session ++ summary ∷ []) count mark
 mark_kept session summary count mark short m = record {
@@ -35,7 +31,7 @@ mark_kept session summary count mark short m = record {
 pub mark_stays : (session : List Summary) (summary : Summary) (count mark : ℕ) → length session ≡ count → IsMark session count mark → above summary.seen ≤ mark → IsMark (session ++ summary ∷ []) (count + 1) mark
 mark_stays session summary count mark len m low = record {
   bounds = λ i x less at. elim (slice_get_push session summary x i at) [
-    | inl old ↦ m.bounds i x (omega (arith, slice_get_inside session i x old, len)) old
+    | inl old ↦ m.bounds i x (omega (arith, slice_get_within session i x old, len)) old
     | inr new ↦ subst (λ (y : Summary). above y.seen ≤ mark) new.1 low
   ];
   reached = elim m.reached [ inl none ↦ inl none | inr r ↦ inr (r.0, r.1, omega (arith, r.2), slice_get_kept session summary r.1 r.0 r.3, r.4) ];
@@ -45,7 +41,7 @@ mark_stays session summary count mark len m low = record {
 pub mark_rises : (session : List Summary) (summary : Summary) (count mark : ℕ) → length session ≡ count → IsMark session count mark → mark < above summary.seen → IsMark (session ++ summary ∷ []) (count + 1) (above summary.seen)
 mark_rises session summary count mark len m high = record {
   bounds = λ i x less at. elim (slice_get_push session summary x i at) [
-    | inl old ↦ omega (arith, m.bounds i x (omega (arith, slice_get_inside session i x old, len)) old, high)
+    | inl old ↦ omega (arith, m.bounds i x (omega (arith, slice_get_within session i x old, len)) old, high)
     | inr new ↦ subst (λ (y : Summary). above y.seen ≤ above summary.seen) new.1 (omega arith)
   ];
   reached = inr (count, summary, omega arith, ap (slice_get (session ++ summary ∷ [])) (sym len) ∙ slice_get_last session summary, refl);

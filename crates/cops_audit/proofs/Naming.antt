@@ -1,17 +1,17 @@
 -- The names of a history's operations, session by session.
-use Rattle.std.proofs.Common.{◌≡◌, ◌<◌, ◌≤◌, ◌+◌, ◌-◌, ◌⊎◌, ℕ, zero, suc, List, [], ◌∷◌, ◌++◌, length, get_or, drop, take, refl, sym, ◌∙◌, ap, subst, inl, inr, arith, slice_index_or, Contains, AllPairs, length-append}
+use Rattle.std.proofs.Common.{◌≡◌, ◌<◌, ◌≤◌, ◌+◌, ◌-◌, ℕ, zero, suc, List, [], ◌∷◌, ◌++◌, length, drop, take, refl, sym, ◌∙◌, ap, subst, inl, inr, arith, slice_index_or, Contains, AllPairs, length-append}
 use Rattle.std.proofs.Math.Nat.{eq-or-lt_of_le}
-use Rattle.std.proofs.lemmas.Bool.{cases_lt}
 use Rattle.std.proofs.lemmas.List.{drop_more}
 use Rattle.std.proofs.lemmas.List.Sums.{sum_by-cons}
 use Rattle.std.proofs.lemmas.List.Elements.{Contains-append_cases, Contains-append_left, Contains-append_right, Contains-get_or}
+use Rattle.std.proofs.lemmas.List.Kept.{AllPairs-cons}
 use Rattle.cops_types.specs.Counts.{count_of}
 use Rattle.cops_types.specs.declared.op.OpName.{OpName}
 use Rattle.cops_types.specs.Histories.{Operation, Sessions, IsNamed}
 use Rattle.cops_types.specs.Faults.{IsBefore, Lists}
 use Rattle.cops_audit.specs.Names.{names_after, names_from, names_of, session_names}
 use Rattle.cops_audit.proofs.Acyclic.{same_name}
-use Rattle.cops_audit.proofs.Listing.{named_index, slice_get_there}
+use Rattle.cops_audit.proofs.Listing.{first_or_later, later, named_index, slice_get_there}
 
 -- the first operations of a session, dropped
 pub drop_session : (client index n : ℕ) (ops : List Operation) (rest : List OpName) → n ≤ length ops → drop n (session_names client index ops ++ rest) ≡ session_names client (index + n) (drop n ops) ++ rest
@@ -37,34 +37,6 @@ pub names_past : (h : Sessions) (client index : ℕ) → client < length h → l
 names_past h client index less le =
     ap (λ ss. drop index (names_from client ss)) (drop_more h client [] less) ∙ drop_whole client 0 index (slice_index_or h client []) (names_from (client + 1) (drop (client + 1) h)) le
 
-pub drop_past : {A : Type 0} (n : ℕ) (xs : List A) → length xs ≤ n → drop n xs ≡ []
-drop_past zero [] le = refl
-drop_past (suc n) [] le = refl
-drop_past zero (x ∷ xs) le = absurd (omega (arith, le))
-drop_past (suc n) (x ∷ xs) le = drop_past n xs (omega (arith, le))
-
--- past the last session there are no names
-pub names_end : (h : Sessions) (client index : ℕ) → length h ≤ client → names_after h client index ≡ []
-names_end h client index le =
-    ap (λ s. session_names client index (drop index s) ++ names_from (client + 1) (drop (client + 1) h)) (past h client le)
-    ∙ ap (λ s. session_names client index s ++ names_from (client + 1) (drop (client + 1) h)) (drop_past index [] (omega arith))
-    ∙ ap (names_from (client + 1)) (drop_past (client + 1) h (omega (arith, le)))
-  where
-    past : (ss : Sessions) (c : ℕ) → length ss ≤ c → slice_index_or ss c [] ≡ []
-    past [] c l = refl
-    past (s ∷ ss) zero l = absurd (omega (arith, l))
-    past (s ∷ ss) (suc c) l = past ss c (omega (arith, l))
-
--- at the end of a session the names go on with the next one
-pub names_next : (h : Sessions) (client index : ℕ) → length (slice_index_or h client []) ≤ index → names_after h (client + 1) 0 ≡ names_after h client index
-names_next h client index le = elim (cases_lt (client + 1) (length h)) [
-  | inl less ↦ ap (names_from (client + 1)) (sym (drop_more h (client + 1) [] less)) ∙ sym here
-  | inr past ↦ names_end h (client + 1) 0 (omega (arith, past)) ∙ ap (names_from (client + 1)) (sym (drop_past (client + 1) h (omega (arith, past)))) ∙ sym here
-]
-  where
-    here : names_after h client index ≡ names_from (client + 1) (drop (client + 1) h)
-    here = ap (λ s. session_names client index s ++ names_from (client + 1) (drop (client + 1) h)) (drop_past index (slice_index_or h client []) le)
-
 -- the first of the names from an operation on is its own
 pub names_first : (h : Sessions) (client index : ℕ) → index < length (slice_index_or h client []) → names_after h client index ≡ record { client = client; index = index } ∷ names_after h client (index + 1)
 names_first h client index less = ap (λ s. session_names client index s ++ names_from (client + 1) (drop (client + 1) h)) (drop_more (slice_index_or h client []) index (slice_get_there (slice_index_or h client []) index less).0 less)
@@ -86,13 +58,6 @@ sessions_count client (s ∷ ss) =
 -- a history has as many names as operations
 pub names_count : (h : Sessions) → length (names_of h) ≡ count_of h
 names_count h = sessions_count 0 h
-
-first_or_later : (n : OpName) (ns : List OpName) (m : OpName) → Contains (n ∷ ns) m → (n ≡ m) ⊎ Contains ns m
-first_or_later n ns m (zero, less, e) = inl e
-first_or_later n ns m (suc k, less, e) = inr (k, omega (arith, less), e)
-
-later : (n : OpName) (ns : List OpName) (m : OpName) → Contains ns m → Contains (n ∷ ns) m
-later n ns m (k, less, e) = (suc k, omega (arith, less), e)
 
 -- the names of a session are its client's, with its indexes
 in_session : (client index : ℕ) (ops : List Operation) (m : OpName) → Contains (session_names client index ops) m → (m.client ≡ client) × (index ≤ m.index) × (m.index < index + length ops)
@@ -123,18 +88,12 @@ sessions_have client (suc k) [] m same inside = absurd (omega (arith, inside))
 sessions_have client zero (s ∷ ss) m same inside = Contains-append_left (session_names client 0 s) (names_from (client + 1) ss) m (session_has client 0 s m (omega (arith, same)) (omega arith) (omega (arith, inside)))
 sessions_have client (suc k) (s ∷ ss) m same inside = Contains-append_right (session_names client 0 s) (names_from (client + 1) ss) m (sessions_have (client + 1) k ss m (omega (arith, same)) inside)
 
-all_pairs_first : (n : OpName) (ns : List OpName) → ((m : OpName) → Contains ns m → IsBefore n m) → AllPairs IsBefore ns → AllPairs IsBefore (n ∷ ns)
-all_pairs_first n ns first pairs zero zero d less inside = absurd (omega (arith, less))
-all_pairs_first n ns first pairs zero (suc j) d less inside = first (get_or ns j d) (Contains-get_or ns j d (omega (arith, inside)))
-all_pairs_first n ns first pairs (suc i) zero d less inside = absurd (omega (arith, less))
-all_pairs_first n ns first pairs (suc i) (suc j) d less inside = pairs i j d (omega (arith, less)) (omega (arith, inside))
-
 session_in_order : (client index : ℕ) (ops : List Operation) (rest : List OpName) → ((m : OpName) → Contains rest m → client < m.client) → AllPairs IsBefore rest → AllPairs IsBefore (session_names client index ops ++ rest)
 session_in_order client index [] rest after pairs = pairs
-session_in_order client index (op ∷ ops) rest after pairs = all_pairs_first (record { client = client; index = index }) (session_names client (index + 1) ops ++ rest)
-    (λ m at. elim (Contains-append_cases (session_names client (index + 1) ops) rest m at) [
-      | inl here ↦ let l = in_session client (index + 1) ops m here in inr (sym l.0, omega (arith, l.1))
-      | inr there ↦ inl (after m there)
+session_in_order client index (op ∷ ops) rest after pairs = AllPairs-cons IsBefore (record { client = client; index = index }) (session_names client (index + 1) ops ++ rest)
+    (λ k m inside. elim (Contains-append_cases (session_names client (index + 1) ops) rest _ (Contains-get_or (session_names client (index + 1) ops ++ rest) k m inside)) [
+      | inl here ↦ let l = in_session client (index + 1) ops _ here in inr (sym l.0, omega (arith, l.1))
+      | inr there ↦ inl (after _ there)
     ])
     (session_in_order client (index + 1) ops rest after pairs)
 

@@ -3,13 +3,13 @@ use Rattle.std.proofs.Common.{◌≡◌, ◌≢◌, ◌<◌, ◌≤◌, ◌+◌,
 use Rattle.std.proofs.Math.ListN.{length-set}
 use Rattle.std.proofs.Math.Nat.{eq-or-lt_of_le}
 use Rattle.std.proofs.lemmas.Bool.{cases_lt}
+use Rattle.std.proofs.lemmas.Option.{slice_get_within}
 use Rattle.cops_types.specs.Histories.{Sessions}
 use Rattle.cops_types.specs.declared.versioned_put.VersionedPut.{VersionedPut}
 use Rattle.cops_audit.specs.Keys.{AreFirsts, AreNexts, IsFirstOn, IsNext, OnKey}
 use Rattle.cops_audit.specs.Tables.{IsVersionTable}
 use Rattle.cops_audit.proofs.Linking.{same_key, written}
 use Rattle.cops_audit.proofs.Listing.{slice_get_there}
-use Rattle.cops_audit.proofs.Marks.{slice_get_inside}
 use Rattle.cops_audit.proofs.Places.{inside_table, put_there, stands_at}
 
 -- either no place before this one was handed on to it, or what was is the first place on its key
@@ -147,5 +147,5 @@ module _ (h : Sessions) (table : List VersionedPut) (t : IsVersionTable h table)
 pub all_passed : (h : Sessions) (table : List VersionedPut) (nexts : List ℕ) (firsts : List ℕ) (i : ℕ) → length table ≤ i → PassedTo h table nexts firsts i → AreFirsts h table firsts
 all_passed h table nexts firsts i enough so_far = record {
   whole = so_far.whole;
-  each = λ place first key at on. so_far.before place first key (let l = slice_get_inside firsts place first at in omega (arith, l, enough, so_far.whole)) at on;
+  each = λ place first key at on. so_far.before place first key (let l = slice_get_within firsts place first at in omega (arith, l, enough, so_far.whole)) at on;
 }

@@ -1,9 +1,9 @@
 -- Versions in a table of puts, by their places.
-use Rattle.std.proofs.Common.{rules, ◌≡◌, ◌≢◌, ◌<◌, ◌≤◌, ◌+◌, ◌-◌, ◌⊎◌, ℕ, zero, suc, List, get_or, length, Some, slice_get, refl, sym, ◌∙◌, ap, subst, inl, inr, arith}
+use Rattle.std.proofs.Common.{rules, ◌≡◌, ◌≢◌, ◌<◌, ◌≤◌, ◌+◌, ◌-◌, ◌⊎◌, ℕ, zero, suc, List, get_or, length, Some, refl, sym, ◌∙◌, ap, subst, inl, inr, arith}
 use native.Mathlib.Numerals.{unary_clauses}
 use Rattle.std.specs.List.Sorted.{IsNonDecreasingBy}
 use Rattle.std.proofs.Math.Nat.{eq-or-lt_of_le}
-use Rattle.std.proofs.lemmas.Bool.{cases_lt}
+use Rattle.std.proofs.lemmas.Bool.{cases_eq, cases_lt, cases_order}
 use Rattle.std.proofs.lemmas.Bool.Decides.{eqb_tells}
 use Rattle.cops_types.specs.declared.op.OpName.{OpName}
 use Rattle.cops_types.specs.Histories.{Sessions, PutsVersion}
@@ -44,7 +44,7 @@ doubled_at : (h : Sessions) (table : List VersionedPut) → IsPutTable h table �
 doubled_at h table t name v put a b d less inside va vb =
     let at = place_of_put h table t name v put in
     let name_at : (k : ℕ) → k ≡ at.0 → (get_or table k d).name ≡ name = λ k e. ap (λ (q : VersionedPut). q.name) (ap (λ j. get_or table j d) e ∙ at.2 d) in
-    elim (either a at.0) [
+    elim (cases_eq a at.0) [
       | inl same ↦ record {
         version = v;
         put = put;
@@ -61,9 +61,6 @@ doubled_at h table t name v put a b d less inside va vb =
       }
     ]
   where
-    either : (i j : ℕ) → (i ≡ j) ⊎ (i ≢ j)
-    either i j = elim (eqb_tells i j) [ inl p ↦ inl p.1 | inr p ↦ inr p.1 ]
-
     -- a name is at one place only
     one_place : (m n : OpName) (i j : ℕ) → i < length table → j < length table → (get_or table i d).name ≡ m → (get_or table j d).name ≡ n → m ≡ n → i ≡ j
     one_place m n i j in_i in_j at_i at_j same = search rules
@@ -77,6 +74,9 @@ doubled_by_neighbour h table t name v put k place in_k in_place (inl e) at same 
 doubled_by_neighbour h table t name v put k place in_k in_place (inr e) at same =
     let d : VersionedPut = record { version = v; name = name } in
     doubled_at h table t name v put place k d (omega (arith, e)) in_k (at d) (same d ∙ at d)
+
+pub never_falls : (table : List VersionedPut) → VersionsNeverFall table → IsNonDecreasingBy (λ (p : VersionedPut). p.version) table
+never_falls table in_order i j d le inside = search rules
 
 -- a neighbouring place has the version of a place
 abbrev pub Beside : List VersionedPut → ℕ → Type 0
@@ -98,15 +98,7 @@ neighbour_of_doubled h table t name v place inside at put f =
     -- all places between two places of one version have it too
     between : (i j k : ℕ) (d : VersionedPut) → i ≤ k → k ≤ j → j < length table → (get_or table i d).version ≡ v → (get_or table j d).version ≡ v → (get_or table k d).version ≡ v
     between i j k d le le' in_j vi vj =
-        let low : ¬ ((get_or table k d).version < (get_or table i d).version) = λ l. elim (eq-or-lt_of_le le) [
-          | inl e ↦ let w : (get_or table i d).version ≡ (get_or table k d).version = ap (λ x. (get_or table x d).version) e in omega (arith, l, w)
-          | inr less ↦ omega (arith, l, t.in_order i k d less (omega (arith, le', in_j)))
-        ] in
-        let high : ¬ ((get_or table j d).version < (get_or table k d).version) = λ l. elim (eq-or-lt_of_le le') [
-          | inl e ↦ let w : (get_or table k d).version ≡ (get_or table j d).version = ap (λ x. (get_or table x d).version) e in omega (arith, l, w)
-          | inr less ↦ omega (arith, l, t.in_order k j d less in_j)
-        ] in
-        omega (arith, low, high, vi, vj)
+        omega (arith, never_falls table t.in_order i k d le (omega (arith, le', in_j)), never_falls table t.in_order k j d le' in_j, vi, vj)
 
     has_neighbour : (q : ℕ) → q < length table → ((d : VersionedPut) → (get_or table q d).version ≡ v) → q ≢ place → Beside table place
     has_neighbour q in_q at_q differs = elim (cases_lt q place) [
@@ -147,24 +139,20 @@ module _ (table : List VersionedPut) (rising : Rises table) where
       let vb : (get_or table j d).version ≡ w = ap (λ (x : VersionedPut). x.version) b.1 in
       omega (arith, rising i j d less b.0, va, vb)
 
+  pub same_put_at : (i : ℕ) (p q : OpName) (v w : ℕ) → StandsAt table i p v → StandsAt table i q w → (p ≡ q) × (v ≡ w)
+  same_put_at i p q v w a b = search rules
+
   pub place_rises : (i j : ℕ) (p q : OpName) (v w : ℕ) → StandsAt table i p v → StandsAt table j q w → v < w → i < j
-  place_rises i j p q v w at_i at_j less =
-      let not : ¬ (j ≤ i) = λ le. elim (eq-or-lt_of_le le) [
-        | inl same ↦ let e : Some (let x : VersionedPut = record { version = w; name = q } in x) ≡ Some (let x : VersionedPut = record { version = v; name = p } in x) = sym at_j ∙ ap (slice_get table) same ∙ at_i in
-            let r : (let x : VersionedPut = record { version = w; name = q } in x) ≡ record { version = v; name = p } = cc in
-            let vw : w ≡ v = ap (λ (x : VersionedPut). x.version) r in omega (arith, vw, less)
-        | inr before ↦ omega (arith, less, version_rises j i q p w v at_j at_i before)
-      ] in
-      omega (arith, not)
+  place_rises i j p q v w at_i at_j less = elim (cases_order i j) [
+    | inl same ↦ absurd (omega (arith, less, (same_put_at i p q v w at_i (subst (λ (k : ℕ). StandsAt table k q w) (sym same) at_j)).1))
+    | inr apart ↦ elim apart [ inl before ↦ before | inr after ↦ absurd (omega (arith, less, version_rises j i q p w v at_j at_i after)) ]
+  ]
 
   pub same_place : (i j : ℕ) (p q : OpName) (v : ℕ) → StandsAt table i p v → StandsAt table j q v → i ≡ j
   same_place i j p q v at_i at_j =
       let not_before : ¬ (i < j) = λ l. omega (arith, version_rises i j p q v v at_i at_j l) in
       let not_after : ¬ (j < i) = λ l. omega (arith, version_rises j i q p v v at_j at_i l) in
       omega (arith, not_before, not_after)
-
-  pub same_put_at : (i : ℕ) (p q : OpName) (v w : ℕ) → StandsAt table i p v → StandsAt table i q w → (p ≡ q) × (v ≡ w)
-  same_put_at i p q v w a b = search rules
 
 -- the place of a put, from any place of its version
 pub place_for : (h : Sessions) (table : List VersionedPut) → IsVersionTable h table → (p : OpName) (v k : ℕ) → PutsVersion h p v → k < length table → ((d : VersionedPut) → (get_or table k d).version ≡ v) → StandsAt table k p v
@@ -182,6 +170,3 @@ stands_put h table t p v puts =
     let d : VersionedPut = record { version = v; name = p } in
     let own = place_of_put h table t p v puts in
     (own.0, stands table own.0 d own.1 ∙ ap (λ (x : VersionedPut). Some x) (own.2 d))
-
-pub never_falls : (table : List VersionedPut) → VersionsNeverFall table → IsNonDecreasingBy (λ (p : VersionedPut). p.version) table
-never_falls table in_order i j d le inside = search rules

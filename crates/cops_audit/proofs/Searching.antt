@@ -15,12 +15,9 @@ use Rattle.cops_audit.specs.Tables.{IsPutTable}
 use Rattle.cops_audit.proofs.Acyclic.{same_name}
 use Rattle.cops_audit.proofs.Closing.{none_in_nothing}
 use Rattle.cops_audit.proofs.Gets.{one_get_version}
+use Rattle.cops_audit.proofs.PastOrder.{past_joined}
 use Rattle.cops_audit.proofs.Places.{place_of_put, put_at}
 use Rattle.cops_audit.proofs.Raising.{in_some_cases, in_some_kept, in_some_last}
-
-pub past_through : (h : Sessions) (a b : OpName) {c : OpName} → Past h a b → Past h b c → Past h a c
-past_through h a b p (step s) = more p s
-past_through h a b p (more q s) = more (past_through h a b p q) s
 
 module _ (h : Sessions) where
   pub takes_put : (name put : OpName) (old new : Sweep) → SourceStep h put name → Raises old new put.client (put.index + 1) → TakesSources h name old new
@@ -116,7 +113,7 @@ module _ (h : Sessions) where
       | inl was ↦ f.past n was
       | inr w ↦ elim (f.past w.0 w.1) [
         | inl was ↦ inr (w.0, was, w.2)
-        | inr v ↦ inr (v.0, v.1, past_through h n w.0 w.2 v.2)
+        | inr v ↦ inr (v.0, v.1, past_joined h n w.0 _ w.2 v.2)
       ]
     ];
   }

@@ -1,6 +1,8 @@
 -- Causal summaries of a session, one operation after the other.
-use Rattle.std.proofs.Common.{rules, ◌≡◌, ◌≢◌, ◌<◌, ◌≤◌, ◌+◌, ◌-◌, ℕ, zero, suc, List, [], ◌∷◌, ◌++◌, length, get_or, map, length-append, Some, refl, sym, ◌∙◌, ap, subst, inl, inr, arith, max, slice_get, slice_index_or, slice_set}
+use Rattle.std.proofs.Common.{rules, ◌≡◌, ◌<◌, ◌≤◌, ◌+◌, ◌-◌, ℕ, zero, suc, List, [], ◌∷◌, ◌++◌, length, get_or, length-append, Some, refl, sym, ◌∙◌, subst, inl, inr, arith, max, slice_get, slice_index_or}
 use Rattle.std.proofs.lemmas.Bool.{cases_lt}
+use Rattle.std.proofs.lemmas.List.{get_or_append_left, get_or-append_right}
+use Rattle.std.proofs.lemmas.Option.{slice_get_within}
 use Rattle.cops_types.specs.declared.op.OpName.{OpName}
 use Rattle.cops_types.specs.Histories.{Sessions, IsNamed}
 use Rattle.cops_types.specs.declared.versioned_put.VersionedPut.{VersionedPut}
@@ -9,9 +11,9 @@ use Rattle.cops_audit.specs.declared.summaries.OpPlace.{OpPlace}
 use Rattle.cops_audit.specs.declared.summaries.OpPlace.TheVariants.{Put, Got, Missed, Sourceless}
 use Rattle.cops_audit.specs.Tables.{IsVersionTable}
 use Rattle.cops_audit.specs.Summaries.{above, AreSummarized, IsMark, IsSummarized, IsSeen, IsSessionSummarized, summary_at}
-use Rattle.cops_audit.proofs.Listing.{named_client, named_index, slice_get_there}
+use Rattle.cops_audit.proofs.Listing.{in_lists, named_client, named_index, slice_get_there}
 use Rattle.cops_audit.proofs.Places.{inside_table}
-use Rattle.cops_audit.proofs.Marks.{mark_kept, mark_rises, mark_stays, slice_get_push, slice_get_inside}
+use Rattle.cops_audit.proofs.Marks.{mark_kept, mark_rises, mark_stays, slice_get_push}
 
 -- places are below the greatest number of puts
 pub few_places : (h : Sessions) (table : List VersionedPut) → IsVersionTable h table → (name : OpName) (seen : OpPlace) → IsSeen h table name seen → above seen ≤ length table
@@ -38,7 +40,7 @@ one_summary_more h table client session count mark summary n seen new = record {
         (subst (λ (j : ℕ). IsSeen h table (record { client = client; index = j }) summary.seen) (sym (last.0 ∙ n.whole)) seen)
   ];
   marks = λ i x at. elim (slice_get_push session summary x i at) [
-    | inl old ↦ mark_kept session summary (i + 1) x.mark (let l : i < length session = slice_get_inside session i x old in omega (arith, l)) (n.marks i x old)
+    | inl old ↦ mark_kept session summary (i + 1) x.mark (let l : i < length session = slice_get_within session i x old in omega (arith, l)) (n.marks i x old)
     | inr last ↦ subst (λ (y : Summary). IsMark (session ++ summary ∷ []) (i + 1) y.mark) last.1
         (subst (λ (j : ℕ). IsMark (session ++ summary ∷ []) (j + 1) summary.mark) (sym (last.0 ∙ n.whole)) new)
   ];
@@ -57,12 +59,7 @@ module _ (h : Sessions) (table : List VersionedPut) (client : ℕ) (session : Li
 -- the summary of an operation, and the session that it is in
 pub session_of : (h : Sessions) (table : List VersionedPut) (summaries : List (List Summary)) → IsSummarized h table summaries → (name : OpName) (summary : Summary) → summary_at summaries name ≡ Some summary
     → IsSessionSummarized h table name.client (slice_index_or summaries name.client [])
-session_of h table summaries summarized name summary at = summarized.sessions name.client (omega (arith, summarized.clients, inside summaries name.client name.index summary at))
-  where
-    inside : (ss : List (List Summary)) (c i : ℕ) (x : Summary) → slice_get (slice_index_or ss c []) i ≡ Some x → c < length ss
-    inside [] c i x e = absurd cc
-    inside (s ∷ ss) zero i x e = omega arith
-    inside (s ∷ ss) (suc c) i x e = omega (arith, inside ss c i x e)
+session_of h table summaries summarized name summary at = summarized.sessions name.client (omega (arith, summarized.clients, in_lists summaries name.client name.index summary at))
 
 -- each operation has a summary
 pub summary_there : (h : Sessions) (table : List VersionedPut) (summaries : List (List Summary)) → IsSummarized h table summaries → (name : OpName) → IsNamed h name → (summary : Summary) × (summary_at summaries name ≡ Some summary)
@@ -70,32 +67,9 @@ summary_there h table summaries summarized name named =
     let session = summarized.sessions name.client (named_client h name named) in
     slice_get_there (slice_index_or summaries name.client []) name.index (omega (arith, session.whole, named_index h name named))
 
--- a list with one element written
-pub set_here : {A B : Type 0} (f : A → B) (d : B) (xs : List A) (k : ℕ) (x : A) → k < length xs → get_or (map f (slice_set xs k x)) k d ≡ f x
-set_here f d [] k x inside = absurd (omega (arith, inside))
-set_here f d (y ∷ ys) zero x inside = refl
-set_here f d (y ∷ ys) (suc k) x inside = set_here f d ys k x (omega (arith, inside))
-
-pub set_other : {A B : Type 0} (f : A → B) (d : B) (xs : List A) (k c : ℕ) (x : A) → c ≢ k → get_or (map f (slice_set xs k x)) c d ≡ get_or (map f xs) c d
-set_other f d [] k c x differs = refl
-set_other f d (y ∷ ys) zero zero x differs = absurd (differs refl)
-set_other f d (y ∷ ys) zero (suc c) x differs = refl
-set_other f d (y ∷ ys) (suc k) zero x differs = refl
-set_other f d (y ∷ ys) (suc k) (suc c) x differs = set_other f d ys k c x (λ e. differs (ap suc e))
-
 -- the summaries of the sessions of all clients
 pub summarized_all : (h : Sessions) (table : List VersionedPut) (first end : ℕ) (summaries : List (List Summary)) → first ≡ 0 → end ≡ length h → AreSummarized h table first end summaries → IsSummarized h table summaries
 summarized_all h table first end summaries from to n = search rules
-
-pub get_low : {A : Type 0} (xs ys : List A) (k : ℕ) (d : A) → k < length xs → get_or (xs ++ ys) k d ≡ get_or xs k d
-get_low [] ys k d inside = absurd (omega (arith, inside))
-get_low (x ∷ xs) ys zero d inside = refl
-get_low (x ∷ xs) ys (suc k) d inside = get_low xs ys k d (omega (arith, inside))
-
-pub get_high : {A : Type 0} (xs ys : List A) (k n : ℕ) (d : A) → n ≡ length xs + k → get_or (xs ++ ys) n d ≡ get_or ys k d
-get_high [] ys k n d e = ap (λ (m : ℕ). get_or ys m d) (let s : n ≡ k = omega (arith, e) in s)
-get_high (x ∷ xs) ys k zero d e = absurd (omega (arith, e))
-get_high (x ∷ xs) ys k (suc n) d e = get_high xs ys k n d (omega (arith, e))
 
 -- the summaries of the clients below one, and those of the others
 pub summarized_joined : (h : Sessions) (table : List VersionedPut) (first mid end : ℕ) (low high : List (List Summary)) → AreSummarized h table first mid low → AreSummarized h table mid end high
@@ -103,7 +77,7 @@ pub summarized_joined : (h : Sessions) (table : List VersionedPut) (first mid en
 summarized_joined h table first mid end low high a b = record {
   clients = omega (arith, length-append low high, a.clients, b.clients);
   sessions = λ k less. elim (cases_lt k (length low)) [
-    | inl l ↦ subst (IsSessionSummarized h table (first + k)) (sym (get_low low high k [] l)) (a.sessions k l)
+    | inl l ↦ subst (IsSessionSummarized h table (first + k)) (sym (get_or_append_left low high [] k l)) (a.sessions k l)
     | inr le ↦ above k less le
   ];
 }
@@ -112,7 +86,7 @@ summarized_joined h table first mid end low high a b = record {
     above k less le =
         let j = k - length low in
         let client : mid + j ≡ first + k = omega (arith, le, a.clients) in
-        subst (IsSessionSummarized h table (first + k)) (sym (get_high low high j k [] (omega (arith, le))))
+        subst (IsSessionSummarized h table (first + k)) (sym (get_or-append_right low high (length low) k [] refl le))
         (subst (λ (n : ℕ). IsSessionSummarized h table n (get_or high j [])) client (b.sessions j (omega (arith, less, le, length-append low high))))
 
 pub summarized_one : (h : Sessions) (table : List VersionedPut) (client : ℕ) (session : List Summary) → IsSessionSummarized h table client session → AreSummarized h table client (client + 1) (session ∷ [])

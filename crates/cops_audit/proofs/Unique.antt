@@ -1,5 +1,6 @@
 -- A history has one verdict.
-use Rattle.std.proofs.Common.{◌≡◌, ◌≢◌, ◌<◌, ℕ, zero, suc, List, [], ◌∷◌, length, get_or, refl, sym, ◌∙◌, subst, inl, inr, arith, AllPairs, slice_get, Some}
+use Rattle.std.proofs.Common.{◌≡◌, ◌≢◌, ◌<◌, ℕ, zero, suc, List, [], ◌∷◌, length, get_or, refl, sym, subst, inl, inr, arith, AllPairs, slice_get, Some, Contains}
+use Rattle.std.proofs.lemmas.Option.{slice_get-get_or}
 use Rattle.cops_types.specs.declared.op.OpName.{OpName}
 use Rattle.cops_types.specs.Histories.{Sessions, Puts, PutsVersion}
 use Rattle.cops_types.specs.VersionOrder.{IsVersionOrder, IsDoubled}
@@ -10,42 +11,41 @@ use Rattle.cops_audit.specs.declared.verdict.Verdict.{Verdict}
 use Rattle.cops_audit.specs.declared.verdict.Verdict.TheVariants.{Accepted, Refused}
 use Rattle.cops_audit.specs.declared.verdict.Faults.TheVariants as class
 use Rattle.cops_audit.specs.Verdicts.{IsVerdict, SameVerdict}
-use Rattle.cops_audit.proofs.Reach.{Mem}
-use Rattle.cops_audit.proofs.Members.{contains_from_mem, mem_from_contains}
-
-Ordered : {A : Type 0} → (A → A → Type 0) → List A → Type 0
-Ordered R [] = Unit {0}
-Ordered {A} R (x ∷ xs) = ((y : A) → Mem y xs → R x y) × Ordered R xs
+use Rattle.cops_audit.proofs.Listing.{first_or_later, later}
 
 -- two lists with the same members, in one strict order
 module _ {A : Type 0} (R : A → A → Type 0) (IsMember : A → Type 0) (strict : (x y : A) → IsMember x → IsMember y → R x y → R y x → ⊥) where
-  heads : (x y : A) (xs ys : List A) → IsMember x → IsMember y → ((z : A) → Mem z xs → R x z) → ((z : A) → Mem z ys → R y z)
-      → Mem x (y ∷ ys) → Mem y (x ∷ xs) → x ≡ y
-  heads x y xs ys mx my below_x below_y (inl same) in_x = same
-  heads x y xs ys mx my below_x below_y (inr later) (inl same) = sym same
-  heads x y xs ys mx my below_x below_y (inr later) (inr later') = absurd (strict x y mx my (below_x y later') (below_y x later))
+  before_rest : (x : A) (xs : List A) → AllPairs R (x ∷ xs) → (z : A) → Contains xs z → R x z
+  before_rest x xs pairs z at = subst (R x) at.2 (pairs zero (suc at.0) z (omega arith) (omega (arith, at.1)))
 
-  same_list : (xs ys : List A) → Ordered R xs → Ordered R ys → ((z : A) → Mem z xs → IsMember z) → ((z : A) → Mem z xs → Mem z ys) → ((z : A) → Mem z ys → Mem z xs) → xs ≡ ys
-  unfolding Ordered
+  -- what is in the one list is in the rest of the other, where it is in the rest of the one
+  in_rest : (x : A) (xs ys : List A) → AllPairs R (x ∷ xs) → IsMember x → ((z : A) → Contains (x ∷ xs) z → Contains (x ∷ ys) z) → (z : A) → Contains xs z → Contains ys z
+  in_rest x xs ys pairs member within z at = elim (first_or_later x ys z (within z (later x xs z at))) [
+    | inl same ↦ let r : R x x = subst (R x) (sym same) (before_rest x xs pairs z at) in absurd (strict x x member member r r)
+    | inr there ↦ there
+  ]
+
+  same_list : (xs ys : List A) → AllPairs R xs → AllPairs R ys → ((z : A) → Contains xs z → IsMember z) → ((z : A) → Contains xs z → Contains ys z) → ((z : A) → Contains ys z → Contains xs z) → xs ≡ ys
   same_list [] [] o p m f g = refl
-  same_list [] (y ∷ ys) o p m f g = absurd (g y (inl refl))
-  same_list (x ∷ xs) [] o p m f g = absurd (f x (inl refl))
+  same_list [] (y ∷ ys) o p m f g = absurd (omega (arith, (g y (zero, omega arith, refl)).1))
+  same_list (x ∷ xs) [] o p m f g = absurd (omega (arith, (f x (zero, omega arith, refl)).1))
   same_list (x ∷ xs) (y ∷ ys) o p m f g =
-      let mx = m x (inl refl) in
-      let my = m y (g y (inl refl)) in
-      let head : x ≡ y = heads x y xs ys mx my o.0 p.0 (f x (inl refl)) (g y (inl refl)) in
-      let tail : xs ≡ ys = same_list xs ys o.1 p.1 (λ z there. m z (inr there))
-      (λ z there. elim (f z (inr there)) [ inl same ↦ absurd (let r : R x x = subst (R x) (same ∙ sym head) (o.0 z there) in strict x x mx mx r r) | inr rest ↦ rest ])
-      (λ z there. elim (g z (inr there)) [ inl same ↦ absurd (let r : R y y = subst (R y) (same ∙ head) (p.0 z there) in strict y y my my r r) | inr rest ↦ rest ]) in
+      let in_ys = first_or_later y ys x (f x (zero, omega arith, refl)) in
+      let in_xs = first_or_later x xs y (g y (zero, omega arith, refl)) in
+      let head : y ≡ x = elim in_ys [
+        | inl same ↦ same
+        | inr after ↦ elim in_xs [
+          | inl same ↦ sym same
+          | inr behind ↦ absurd (strict x y (m x (zero, omega arith, refl)) (m y (later x xs y behind)) (before_rest x xs o y behind) (before_rest y ys p x after))
+        ]
+      ] in
+      let one = m x (zero, omega arith, refl) in
+      let q : AllPairs R (x ∷ ys) = subst (λ z. AllPairs R (z ∷ ys)) head p in
+      let tail : xs ≡ ys = same_list xs ys (λ i j d less inside. o (suc i) (suc j) d (omega (arith, less)) (omega (arith, inside)))
+      (λ i j d less inside. p (suc i) (suc j) d (omega (arith, less)) (omega (arith, inside))) (λ z at. m z (later x xs z at))
+      (in_rest x xs ys o one (λ z at. subst (λ w. Contains (w ∷ ys) z) head (f z at)))
+      (in_rest x ys xs q one (λ z at. g z (subst (λ w. Contains (w ∷ ys) z) (sym head) at))) in
       cc
-
-ordered_from_pairs : {A : Type 0} (R : A → A → Type 0) (xs : List A) → AllPairs R xs → Ordered R xs
-unfolding Ordered
-ordered_from_pairs R [] pairs = tt
-ordered_from_pairs R (x ∷ xs) pairs = (
-  (λ y there. let at = contains_from_mem y xs there in subst (R x) at.2 (pairs zero (suc at.0) y (omega arith) (omega (arith, at.1)))),
-  ordered_from_pairs R xs (λ i j d less inside. pairs (suc i) (suc j) d (omega (arith, less)) (omega (arith, inside))),
-)
 
 before_strict : (a b : OpName) → IsBefore a b → IsBefore b a → ⊥
 before_strict a b (inl p) (inl q) = omega (arith, p, q)
@@ -56,16 +56,11 @@ before_strict a b (inr p) (inr q) = omega (arith, p.1, q.1)
 -- the faults of a class are listed in one way
 pub one_listing : {A : Type 0} (name_of : A → OpName) (IsFault : A → Type 0) (xs ys : List A) → Lists name_of IsFault xs → Lists name_of IsFault ys → xs ≡ ys
 one_listing name_of IsFault xs ys p q =
-    same_list (λ x y. IsBefore (name_of x) (name_of y)) IsFault (λ x y _ _ f g. before_strict (name_of x) (name_of y) f g) xs ys
-    (ordered_from_pairs _ xs p.in_order) (ordered_from_pairs _ ys q.in_order)
-    (λ z there. (p.members z).0 (contains_from_mem z xs there))
-    (λ z there. mem_from_contains z ys ((q.members z).1 ((p.members z).0 (contains_from_mem z xs there))))
-    (λ z there. mem_from_contains z xs ((p.members z).1 ((q.members z).0 (contains_from_mem z ys there))))
+    same_list (λ x y. IsBefore (name_of x) (name_of y)) IsFault (λ x y _ _ f g. before_strict (name_of x) (name_of y) f g) xs ys p.in_order q.in_order
+    (λ z. (p.members z).0) (λ z at. (q.members z).1 ((p.members z).0 at)) (λ z at. (p.members z).1 ((q.members z).0 at))
 
 pub stands : {A : Type 0} (xs : List A) (i : ℕ) (d : A) → i < length xs → slice_get xs i ≡ Some (get_or xs i d)
-stands [] i d inside = absurd (omega (arith, inside))
-stands (x ∷ xs) zero d inside = refl
-stands (x ∷ xs) (suc i) d inside = stands xs i d (omega (arith, inside))
+stands xs i d inside = slice_get-get_or xs i d inside
 
 rising_pairs : (h : Sessions) (xs : List OpName) → IsVersionOrder h xs → AllPairs (λ p q. (v w : ℕ) → PutsVersion h p v → PutsVersion h q w → v < w) xs
 rising_pairs h xs order i j d less inside v w first second =
@@ -75,11 +70,8 @@ rising_pairs h xs order i j d less inside v w first second =
 pub one_order : (h : Sessions) (xs ys : List OpName) → IsVersionOrder h xs → IsVersionOrder h ys → xs ≡ ys
 one_order h xs ys p q =
     same_list (λ a b. (v w : ℕ) → PutsVersion h a v → PutsVersion h b w → v < w) (Puts h)
-    (λ a b put_a put_b f g. omega (arith, f put_a.0 put_b.0 put_a.1 put_b.1, g put_b.0 put_a.0 put_b.1 put_a.1)) xs ys
-    (ordered_from_pairs _ xs (rising_pairs h xs p)) (ordered_from_pairs _ ys (rising_pairs h ys q))
-    (λ z there. (p.members z).0 (contains_from_mem z xs there))
-    (λ z there. mem_from_contains z ys ((q.members z).1 ((p.members z).0 (contains_from_mem z xs there))))
-    (λ z there. mem_from_contains z xs ((p.members z).1 ((q.members z).0 (contains_from_mem z ys there))))
+    (λ a b put_a put_b f g. omega (arith, f put_a.0 put_b.0 put_a.1 put_b.1, g put_b.0 put_a.0 put_b.1 put_a.1)) xs ys (rising_pairs h xs p) (rising_pairs h ys q)
+    (λ z. (p.members z).0) (λ z at. (q.members z).1 ((p.members z).0 at)) (λ z at. (p.members z).1 ((q.members z).0 at))
 
 pub some_fault : {A : Type 0} (name_of : A → OpName) (IsFault : A → Type 0) (xs : List A) → xs ≢ [] → Lists name_of IsFault xs → (x : A) × IsFault x
 some_fault name_of IsFault [] some lists = absurd (some refl)

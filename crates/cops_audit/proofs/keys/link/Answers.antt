@@ -1,21 +1,21 @@
 use Rattle.std.proofs.Common.{◌≡◌, ◌≢◌, ◌<◌, ◌+◌, ◌-◌, ℕ, Some, None, length, slice_index_or, get_or-set_same, get_or-set_other, slice_get, slice_set, sym, ◌∙◌, ap, subst, inl, inr, arith}
 use Rattle.std.proofs.Math.ListN.{length-set}
 use Rattle.std.proofs.lemmas.Bool.{cases_eq}
+use Rattle.std.proofs.lemmas.Option.{slice_get_within}
 use Rattle.cops_audit.specs.Keys.{IsFirstFrom, LinksTo, OnKey}
 use Rattle.cops_audit.proofs.Collect.{get_or-default}
 use Rattle.cops_audit.proofs.Linking.{next_is, first_here, first_kept, keyed_at, linked, written}
-use Rattle.cops_audit.proofs.Marks.{slice_get_inside}
 use Rattle.cops_audit.proofs.keys.link.Goals as goal
 
 pub index-requires : goal.index-requires
 index-requires c =
     let at = keyed_at c.args.history.now c.args.table.now c.args.keys.now c.requires.table c.requires.keys (c.loop-place.place - 1) (omega arith) in
-    omega (arith, slice_get_inside c.args.history.now.keys _ at.0 at.2, c.loop-place.invariant.width)
+    omega (arith, slice_get_within c.args.history.now.keys _ at.0 at.2, c.loop-place.invariant.width)
 
 pub index_mut-requires-in-loop-place : goal.index_mut-requires-in-loop-place
 index_mut-requires-in-loop-place c =
     let at = keyed_at c.args.history.now c.args.table.now c.args.keys.now c.requires.table c.requires.keys (c.loop-place.place - 1) (omega arith) in
-    omega (arith, slice_get_inside c.args.history.now.keys _ at.0 at.2, c.loop-place.invariant.width)
+    omega (arith, slice_get_within c.args.history.now.keys _ at.0 at.2, c.loop-place.invariant.width)
 
 pub loop-place-preserved : goal.loop-place-preserved
 loop-place-preserved c =
@@ -32,7 +32,7 @@ loop-place-preserved c =
     let key = keyed.0 in
     let here = keyed.1 in
     let at = keyed.2 in
-    let inside : number < length firsts = omega (arith, slice_get_inside keys number key at, c.loop-place.invariant.width) in
+    let inside : number < length firsts = omega (arith, slice_get_within keys number key at, c.loop-place.invariant.width) in
     let is_found : slice_index_or firsts number None ≡ found = get_or-default firsts number None found inside ∙ sym c.index.ensures in
     let links : LinksTo h table k next = subst (LinksTo h table k) (sym c.unwrap_or.ensures) (linked h table k key found here
     (next_is h table c.requires.table.rising k c.loop-place.place key found e here (subst (IsFirstFrom h table c.loop-place.place key) is_found (c.loop-place.invariant.firsts number key at)))) in

@@ -2,11 +2,11 @@ use Rattle.std.proofs.Common.{◌≡◌, ◌≤◌, ℕ, List, Some, get_or, sli
 use Rattle.std.proofs.Math.ListN.{length-set}
 use Rattle.std.proofs.Math.Nat.{eq-or-lt_of_le}
 use Rattle.std.specs.Option.{option_map}
+use Rattle.std.proofs.lemmas.Option.{slice_get_within}
 use Rattle.cops_types.specs.Histories.{write}
 use Rattle.cops_types.specs.Operations.{key_of}
 use Rattle.cops_audit.specs.Keys.{OnKey}
 use Rattle.cops_audit.proofs.Linking.{on_key, same_key, written}
-use Rattle.cops_audit.proofs.Marks.{slice_get_inside}
 use Rattle.cops_audit.proofs.Places.{inside_table}
 use Rattle.cops_audit.proofs.Unique.{stands}
 use Rattle.cops_audit.proofs.keys.set_keys.Goals as goal
@@ -65,5 +65,5 @@ returns-clause-keys c = record {
   whole = c.loop-reported.invariant.count;
   each = λ place number key at on.
       let reported = c.requires.places.all place (inside_table c.args.table.now place on.0 on.1 on.2) in
-      c.loop-reported.invariant.each reported.0 place number key (let less = slice_get_inside c.args.places.now reported.0 place reported.1 in omega (arith, less, c.loop-reported-test.false)) reported.1 at on;
+      c.loop-reported.invariant.each reported.0 place number key (let less = slice_get_within c.args.places.now reported.0 place reported.1 in omega (arith, less, c.loop-reported-test.false)) reported.1 at on;
 }

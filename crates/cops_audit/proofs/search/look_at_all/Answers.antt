@@ -1,5 +1,5 @@
 use Rattle.std.proofs.Common.{refl, arith}
-use Rattle.cops_audit.proofs.Classes.{empty_list}
+use Rattle.std.proofs.lemmas.List.{nil_from_length}
 use Rattle.cops_audit.proofs.Searching.{finds_on, search_done, search_popped}
 use Rattle.cops_audit.proofs.search.look_at_all.Goals as goal
 
@@ -14,4 +14,4 @@ loop-range-preserved c = record {
 }
 
 pub returns-clause-searching : goal.returns-clause-searching
-returns-clause-searching c = search_done c.args.history.now.sessions c.loop-range.search _ refl (empty_list c.loop-range.search.pending.items (omega (arith, c.in_default.ensures.cases.0))) (empty_list c.pop.new.self.items (omega (arith, c.in_default.ensures.cases.1))) c.loop-range.invariant.searching
+returns-clause-searching c = search_done c.args.history.now.sessions c.loop-range.search _ refl (nil_from_length c.loop-range.search.pending.items (omega (arith, c.in_default.ensures.cases.0))) (nil_from_length c.pop.new.self.items (omega (arith, c.in_default.ensures.cases.1))) c.loop-range.invariant.searching

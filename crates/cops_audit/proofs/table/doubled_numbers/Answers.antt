@@ -1,13 +1,13 @@
 use Rattle.std.proofs.Common.{true, sym, refl, arith}
 use Rattle.std.proofs.Math.ListN.{length-set}
+use Rattle.std.proofs.lemmas.Option.{slice_get_within}
 use Rattle.cops_audit.proofs.Doubling.{report_all, report_more}
-use Rattle.cops_audit.proofs.Marks.{slice_get_inside}
 use Rattle.cops_audit.proofs.table.doubled_numbers.Goals as goal
 
 pub index_mut-requires : goal.index_mut-requires
 index_mut-requires c =
     let at = (c.in-Some.ensures.number c.in-Some.number).0 refl in
-    omega (arith, slice_get_inside c.args.history.now.puts c.in-Some.number c.index-put.result.now.name at, c.loop-k.invariant.len, c.loop-k.are_doubled.ok.0)
+    omega (arith, slice_get_within c.args.history.now.puts c.in-Some.number c.index-put.result.now.name at, c.loop-k.invariant.len, c.loop-k.are_doubled.ok.0)
 
 pub unreachable-requires : goal.unreachable-requires
 unreachable-requires c =

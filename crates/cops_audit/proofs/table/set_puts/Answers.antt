@@ -16,7 +16,7 @@ returns-clause-puts c =
         (λ there. (listed.puts.members p).0 (Contains-permutation ys xs p (IsPermutation-sym xs ys permutation) there)),
         (λ put. Contains-permutation xs ys p permutation ((listed.puts.members p).1 put)),
       );
-      once = names_differ (λ (p : VersionedPut). p.name) xs ys permutation listed.puts.once;
+      once = names_differ xs ys permutation listed.puts.once;
       in_order = λ i j d less inside. sorted i j d (omega (arith, less)) inside;
       few = omega (arith, length_permutation xs ys permutation, listed.few, c.list_puts.ensures.limits.all);
     }
