@@ -25,8 +25,7 @@ module _ (puts : List OpName) (xs : List VersionedPut) (k : ℕ) (inside : k < l
   pub report_more : ReportBelow puts xs (k + 1) (slice_set flags m true)
   report_more n name named = elim (cases_eq n m) [
     | inl same ↦
-        let both : Some x.name ≡ Some name = sym at ∙ ap (slice_get puts) (sym same) ∙ named in
-        let one : x.name ≡ name = cc in
+        let one : x.name ≡ name = cc (at, same, named) in
         let set : slice_index_or (slice_set flags m true) n false ≡ true = ap (λ (j : ℕ). slice_index_or (slice_set flags m true) j false) same
         ∙ get_or-set_same flags m true false (omega (arith, slice_get_within puts m x.name at, len)) in
         ((λ _. (k, omega arith, λ d. named_here d ∙ one)), (λ _. set))

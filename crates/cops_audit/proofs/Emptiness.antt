@@ -40,17 +40,18 @@ order_of_table h table by_version = record { members = λ p. (forth p, back p); 
         let at = (by_version.table.members d).1 put.1 in
         (at.0, omega (arith, at.1, length-map table (λ (q : VersionedPut). q.name)), get_or-map (λ (q : VersionedPut). q.name) table at.0 d p at.1 ∙ ap (λ (q : VersionedPut). q.name) at.2)
 
+    -- the version at a place of the names
+    version_at : (k : ℕ) (n : OpName) (v : ℕ) (d : VersionedPut) → slice_get (map (λ (r : VersionedPut). r.name) table) k ≡ Some n → PutsVersion h n v → (k < length table) × ((get_or table k d).version ≡ v)
+    version_at k n v d e put =
+        let at = at_index (map (λ (r : VersionedPut). r.name) table) k n n e in
+        let inside : k < length table = omega (arith, at.0, length-map table (λ (r : VersionedPut). r.name)) in
+        let own = get_or table k d in
+        let name : own.name ≡ n = sym (get_or-map (λ (r : VersionedPut). r.name) table k d n inside) ∙ at.1 in
+        (inside, one_version h own.name n own.version v ((by_version.table.members own).0 (k, inside, get_or-default table k own d inside)) put name)
+
     rising : (p q : OpName) (v w : ℕ) → StandsBefore (map (λ (r : VersionedPut). r.name) table) p q → PutsVersion h p v → PutsVersion h q w → v < w
     rising p q v w b first second =
-        let d : VersionedPut = record { version = 0; name = p } in
-        let at_p = at_index (map (λ (r : VersionedPut). r.name) table) b.0 p p b.3 in
-        let at_q = at_index (map (λ (r : VersionedPut). r.name) table) b.1 q p b.4 in
-        let in_p : b.0 < length table = omega (arith, at_p.0, length-map table (λ (r : VersionedPut). r.name)) in
-        let in_q : b.1 < length table = omega (arith, at_q.0, length-map table (λ (r : VersionedPut). r.name)) in
-        let put_p = get_or table b.0 d in
-        let put_q = get_or table b.1 d in
-        let name_p : put_p.name ≡ p = sym (get_or-map (λ (r : VersionedPut). r.name) table b.0 d p in_p) ∙ at_p.1 in
-        let name_q : put_q.name ≡ q = sym (get_or-map (λ (r : VersionedPut). r.name) table b.1 d p in_q) ∙ at_q.1 in
-        let version_p : put_p.version ≡ v = one_version h put_p.name p put_p.version v ((by_version.table.members put_p).0 (b.0, in_p, get_or-default table b.0 put_p d in_p)) first name_p in
-        let version_q : put_q.version ≡ w = one_version h put_q.name q put_q.version w ((by_version.table.members put_q).0 (b.1, in_q, get_or-default table b.1 put_q d in_q)) second name_q in
-        omega (arith, by_version.rising b.0 b.1 d b.2 in_q, version_p, version_q)
+        let d : VersionedPut = record { version = v; name = p } in
+        let at_p = version_at b.0 p v d b.3 first in
+        let at_q = version_at b.1 q w d b.4 second in
+        omega (arith, by_version.rising b.0 b.1 d b.2 at_q.0, at_p.1, at_q.1)

@@ -62,8 +62,7 @@ module _ (h : Sessions) (table : List VersionedPut) (t : IsVersionTable h table)
     first_here : (first : ℕ) (key : List ℕ) → slice_get firsts i ≡ Some first → OnKey h table i key → IsFirstOn h table key first
     first_here first key at on = elim (so_far.after i (omega arith) inside) [
       | inl own ↦
-          let e : Some i ≡ Some first = sym own.0 ∙ at in
-          let e' : i ≡ first = cc in
+          let e' : i ≡ first = cc (own.0, at) in
           subst (IsFirstOn h table key) e' (record {
             on_key = on;
             least = λ p on_p.
@@ -71,8 +70,7 @@ module _ (h : Sessions) (table : List VersionedPut) (t : IsVersionTable h table)
                 omega (arith, not);
           })
       | inr passed ↦
-          let e : Some passed.0 ≡ Some first = sym passed.1 ∙ at in
-          let e' : passed.0 ≡ first = cc in
+          let e' : passed.0 ≡ first = cc (passed.1, at) in
           subst (IsFirstOn h table key) e' (passed.2 key on)
     ]
 
@@ -92,8 +90,7 @@ module _ (h : Sessions) (table : List VersionedPut) (t : IsVersionTable h table)
           own.0,
           λ p less e. elim (eq-or-lt_of_le (let l : p ≤ i = omega (arith, less) in l)) [
             | inl same ↦
-                let f : Some next ≡ Some q = sym at_next ∙ ap (slice_get nexts) (sym same) ∙ e in
-                let g : next ≡ q = cc in
+                let g : next ≡ q = cc (at_next, same, e) in
                 omega (arith, g, past, in_q)
             | inr old ↦ own.1 p old e
           ],

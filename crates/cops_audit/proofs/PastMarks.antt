@@ -31,8 +31,7 @@ module _ (h : Sessions) (table : List VersionedPut) (t : IsVersionTable h table)
         | inl none ↦ omega (arith, none)
         | inr r ↦ elim (eq-or-lt_of_le (let le : r.0 ≤ n.index = omega (arith, r.2) in le)) [
           | inl same ↦
-              let e : Some r.1 ≡ Some summary = sym r.3 ∙ ap (slice_get (slice_index_or summaries n.client [])) same ∙ at in
-              let e' : r.1 ≡ summary = cc in
+              let e' : r.1 ≡ summary = cc (r.3, same, at) in
               let s : above r.1.seen ≡ place + 1 = ap (λ (x : Summary). above x.seen) e' ∙ ap above is in
               omega (arith, s, r.4)
           | inr before ↦

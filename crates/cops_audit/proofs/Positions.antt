@@ -28,10 +28,9 @@ abbrev pub ReportPlacesBelow : ℕ → List OpName → List VersionedPut → Lis
 ReportPlacesBelow end puts table places =
     (k number : ℕ) (put : OpName) (version : ℕ) → k < end → StandsAt table k put version → slice_get puts number ≡ Some put → slice_get places number ≡ Some k
 
--- each put of the table below the end has a number, and its place is at that number
-abbrev pub AllReportedBelow : ℕ → List OpName → List VersionedPut → List ℕ → Type 0
-AllReportedBelow end puts table places =
-    (k : ℕ) (put : OpName) (version : ℕ) → k < end → StandsAt table k put version → (number : ℕ) × (slice_get puts number ≡ Some put) × (slice_get places number ≡ Some k)
+-- each put of the table below the end has a number
+abbrev pub AllNumberedBelow : ℕ → List OpName → List VersionedPut → Type 0
+AllNumberedBelow end puts table = (k : ℕ) (put : OpName) (version : ℕ) → k < end → StandsAt table k put version → (number : ℕ) × (slice_get puts number ≡ Some put)
 
 module _ (h : Sessions) (puts : List OpName) (table : List VersionedPut) (t : IsVersionTable h table) (k : ℕ) (inside : k < length table) (d : VersionedPut) (number : ℕ) (at : slice_get puts number ≡ Some (get_or table k d).name)
     (alone : (n : ℕ) → slice_get puts n ≡ Some (get_or table k d).name → n ≡ number) (places : List ℕ) (whole : length places ≡ length puts) where
@@ -49,25 +48,15 @@ module _ (h : Sessions) (puts : List OpName) (table : List VersionedPut) (t : Is
         let there : j < length table = omega (arith, before, inside) in
         let is_q = (same_put_at table t.rising j put q.name version q.version stands (stands_at table j d there)).0 in
         let apart : n ≢ number = λ e.
-        let both : Some put ≡ Some (get_or table k d).name = sym named ∙ ap (slice_get puts) e ∙ at in
         let names : put ≡ (get_or table k d).name = cc in
         t.table.once j k d before inside (sym is_q ∙ names) in
         set_elsewhere places number n k apart ∙ reported j n put version before stands named
   ]
 
-  pub all_more : AllReportedBelow k puts table places → AllReportedBelow (k + 1) puts table (slice_set places number k)
-  all_more reported j put version less stands = elim (eq-or-lt_of_le (let le : j ≤ k = omega (arith, less) in le)) [
+  pub all_more : AllNumberedBelow k puts table → AllNumberedBelow (k + 1) puts table
+  all_more numbered j put version less stands = elim (eq-or-lt_of_le (let le : j ≤ k = omega (arith, less) in le)) [
     | inl e ↦
         let same = (same_put_at table t.rising k put (get_or table k d).name version (get_or table k d).version (subst (λ (i : ℕ). StandsAt table i put version) e stands) (stands_at table k d inside)).0 in
-        (number, at ∙ ap Some (sym same), set_at places number k number_inside ∙ ap Some (sym e))
-    | inr before ↦
-        let old = reported j put version before stands in
-        let q = get_or table j d in
-        let there : j < length table = omega (arith, before, inside) in
-        let is_q = (same_put_at table t.rising j put q.name version q.version stands (stands_at table j d there)).0 in
-        let apart : old.0 ≢ number = λ e.
-        let both : Some put ≡ Some (get_or table k d).name = sym old.1 ∙ ap (slice_get puts) e ∙ at in
-        let names : put ≡ (get_or table k d).name = cc in
-        t.table.once j k d before inside (sym is_q ∙ names) in
-        (old.0, old.1, set_elsewhere places number old.0 k apart ∙ old.2)
+        (number, at ∙ ap Some (sym same))
+    | inr before ↦ numbered j put version before stands
   ]

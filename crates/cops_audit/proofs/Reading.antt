@@ -15,19 +15,16 @@ use Rattle.cops_audit.proofs.Gets.{one_get_version}
 use Rattle.cops_audit.proofs.Summarizing.{summary_there, session_of}
 use Rattle.cops_audit.proofs.Places.{place_rises}
 
--- a get that found nothing is no put and no get of a version
-pub missed_puts_nothing : (h : Sessions) (n : OpName) (k : List ℕ) (v : ℕ) → IsMissed h n k → PutsVersion h n v → ⊥
-missed_puts_nothing h n k v nothing put = let e : Some (missed k) ≡ Some (write put.0 put.1 v) = sym nothing ∙ put.2 in cc
-
+-- a get that found nothing is no get of a version
 pub missed_gets_nothing : (h : Sessions) (n : OpName) (k : List ℕ) (v : ℕ) → IsMissed h n k → GetsVersion h n v → ⊥
-missed_gets_nothing h n k v nothing got = let e : Some (missed k) ≡ Some (read got.0 got.1 v) = sym nothing ∙ got.2 in cc
+missed_gets_nothing h n k v nothing got = let found = got.2 in absurd cc
 
 module _ (h : Sessions) (table : List VersionedPut) where
   -- the summary of a put has its own place
   pub seen_put : (n : OpName) (v : ℕ) (seen : OpPlace) → IsSeen h table n seen → PutsVersion h n v → (p : ℕ) × (seen ≡ Put p) × StandsAt table p n v
   seen_put n v (Put p) s put = (p, refl, subst (StandsAt table p n) (one_version h n n s.0 v s.1 put refl) s.2)
   seen_put n v (Got p) s put = absurd (put_is_no_get h n n v s.1 put s.3 refl)
-  seen_put n v Missed s put = absurd (missed_puts_nothing h n s.0 v s.1 put)
+  seen_put n v Missed s put = let nothing = s.1 in let found = put.2 in absurd cc
   seen_put n v (Sourceless p) s put = absurd (put_is_no_get h n n v s.0.version put (s.0.key, s.0.content, s.0.got) refl)
 
   -- the summary of a get that has a source has its source's place

@@ -16,7 +16,7 @@ use Rattle.cops_audit.proofs.Acyclic.{same_name}
 use Rattle.cops_audit.proofs.Closing.{none_in_nothing}
 use Rattle.cops_audit.proofs.Gets.{one_get_version}
 use Rattle.cops_audit.proofs.PastOrder.{past_joined}
-use Rattle.cops_audit.proofs.Places.{place_of_put, put_at}
+use Rattle.cops_audit.proofs.Places.{never_falls, place_of_put, put_at}
 use Rattle.cops_audit.proofs.Raising.{in_some_cases, in_some_kept, in_some_last}
 
 module _ (h : Sessions) where
@@ -57,29 +57,25 @@ module _ (h : Sessions) where
     pub none_before : (first : ℕ) (s : Sweep) → ((k : ℕ) (d : VersionedPut) → k < first → (get_or table k d).version < version) → CountedTo table name first s
     none_before first s low k d less inside source = absurd (omega (arith, low k d less, at_version k d inside source))
 
-    -- where the next place has a higher version, all sources are counted
-    pub none_after : (place : ℕ) (s : Sweep) → place < length table → ((d : VersionedPut) → version < (get_or table place d).version) → CountedTo table name place s → (put : OpName) → SourceStep h put name → Counted s.counts put
-    none_after place s inside high so_far put source = by_place (place_of_put h table t put version (subst (PutsVersion h put) (one_get_version h name source.version version (source.key, source.content, source.got) gets) (source.key, source.content, source.put)))
-      where
-        by_place : (at : (k : ℕ) × (k < length table) × ((d : VersionedPut) → get_or table k d ≡ (let q : VersionedPut = record { version = version; name = put } in q))) → Counted s.counts put
-        by_place at =
-            let d : VersionedPut = record { version = version; name = put } in
-            let own : (get_or table at.0 d).version ≡ version = ap (λ (q : VersionedPut). q.version) (at.2 d) in
-            let is : (get_or table at.0 d).name ≡ put = ap (λ (q : VersionedPut). q.name) (at.2 d) in
-            elim (cases_lt at.0 place) [
-              | inl before ↦ subst (Counted s.counts) is (so_far at.0 d before at.1 (subst (λ x. SourceStep h x name) (sym is) source))
-              | inr le ↦ elim (eq-or-lt_of_le le) [
-                | inl same ↦ let e : (get_or table place d).version ≡ (get_or table at.0 d).version = ap (λ (k : ℕ). (get_or table k d).version) same in absurd (omega (arith, e, own, high d))
-                | inr less ↦ absurd (omega (arith, t.in_order place at.0 d less at.1, own, high d))
-              ]
-            ]
-
-    pub all_sources : (place : ℕ) (s : Sweep) → length table ≤ place → CountedTo table name place s → (put : OpName) → SourceStep h put name → Counted s.counts put
-    all_sources place s enough so_far put source =
+    -- where the sources at the places so far are all of them, all sources are counted
+    counted_below : (place : ℕ) (s : Sweep) → ((k : ℕ) → k < length table → ((d : VersionedPut) → (get_or table k d).version ≡ version) → k < place) → CountedTo table name place s
+        → (put : OpName) → SourceStep h put name → Counted s.counts put
+    counted_below place s below so_far put source =
         let at = place_of_put h table t put version (subst (PutsVersion h put) (one_get_version h name source.version version (source.key, source.content, source.got) gets) (source.key, source.content, source.put)) in
         let d : VersionedPut = record { version = version; name = put } in
         let is : (get_or table at.0 d).name ≡ put = ap (λ (q : VersionedPut). q.name) (at.2 d) in
-        subst (Counted s.counts) is (so_far at.0 d (omega (arith, at.1, enough)) at.1 (subst (λ x. SourceStep h x name) (sym is) source))
+        subst (Counted s.counts) is (so_far at.0 d (below at.0 at.1 (λ e. ap (λ (q : VersionedPut). q.version) (at.2 e))) at.1 (subst (λ x. SourceStep h x name) (sym is) source))
+
+    -- as where the next place has a higher version
+    pub none_after : (place : ℕ) (s : Sweep) → place < length table → ((d : VersionedPut) → version < (get_or table place d).version) → CountedTo table name place s → (put : OpName) → SourceStep h put name → Counted s.counts put
+    none_after place s inside high = counted_below place s (λ k in_k own. elim (cases_lt k place) [
+      | inl less ↦ less
+      | inr le ↦ let d : VersionedPut = record { version = version; name = name } in absurd (omega (arith, never_falls table t.in_order place k d le in_k, own d, high d))
+    ])
+
+    -- as at the end
+    pub all_sources : (place : ℕ) (s : Sweep) → length table ≤ place → CountedTo table name place s → (put : OpName) → SourceStep h put name → Counted s.counts put
+    all_sources place s enough = counted_below place s (λ k inside own. omega (arith, inside, enough))
 
   -- one operation of a range is visited
   pub search_on : (old new : Sweep) (name : OpName) (to : ℕ) → name.index < to → IsSearching h old (InRange (record { client = name.client; from = name.index; to = to })) → TakesSources h name old new

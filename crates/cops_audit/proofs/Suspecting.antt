@@ -13,13 +13,8 @@ use Rattle.cops_audit.specs.Windows.{HasFirst, IsSuspect, NoneWithin, WouldBeNew
 use Rattle.cops_audit.proofs.Acyclic.{one_version}
 use Rattle.cops_audit.proofs.Gets.{one_get_version}
 use Rattle.cops_audit.proofs.Linking.{same_key}
+use Rattle.cops_audit.proofs.Reading.{missed_gets_nothing}
 use Rattle.cops_audit.proofs.Places.{put_there, place_rises, version_rises, same_place}
-
-missed_is_no_get : (h : Sessions) (n : OpName) (k key : List ℕ) (content : Option (List ℕ)) (v : ℕ) → IsMissed h n k → IsGot h n key content v → ⊥
-missed_is_no_get h n k key content v nothing got = let e : Some (missed k) ≡ Some (read key content v) = sym nothing ∙ got in cc
-
-one_missed_key : (h : Sessions) (n : OpName) (a b : List ℕ) → IsMissed h n a → IsMissed h n b → a ≡ b
-one_missed_key h n a b first second = let e : Some (missed a) ≡ Some (missed b) = sym first ∙ second in cc
 
 one_got : (h : Sessions) (n : OpName) (a b : List ℕ) (x y : Option (List ℕ)) (v w : ℕ) → IsGot h n a x v → IsGot h n b y w → (a ≡ b) × (v ≡ w)
 one_got h n a b x y v w first second = search rules
@@ -41,8 +36,8 @@ module _ (h : Sessions) (table : List VersionedPut) (t : IsVersionTable h table)
 
   module _ (op : OpName) (k : List ℕ) (nothing : IsMissed h op k) where
     would_missed : (p : ℕ) (put : OpName) (version : ℕ) → StandsAt table p put version → WouldBeNewer h op put version → OnKey h table p k
-    would_missed p put version at (key, puts, inl got) = absurd (missed_is_no_get h op k key got.0 got.1 nothing got.2)
-    would_missed p put version at (key, puts, inr other) = (put, version, at, subst (λ x. PutsKey h put x version) (one_missed_key h op key k other nothing) puts)
+    would_missed p put version at (key, puts, inl got) = absurd (missed_gets_nothing h op k got.1 nothing (key, got.0, got.2))
+    would_missed p put version at (key, puts, inr other) = (put, version, at, subst (λ x. PutsKey h put x version) (let same : key ≡ k = cc in same) puts)
 
     pub missed_clear : (mark : ℕ) → IsFirstFrom h table 0 k None → NoneWithin h table op mark
     missed_clear mark none p put version at would = absurd (none p (omega arith) (would_missed p put version at would))
@@ -55,12 +50,12 @@ module _ (h : Sessions) (table : List VersionedPut) (t : IsVersionTable h table)
       named = (_, nothing);
       later = λ p put version at would. let on = would_missed p put version at would in (is.2 p (omega arith) on, has_first p first k on is);
       newer = λ p put version at le has. (k, on_first p first k put version at has is.1, inr nothing);
-      source = λ p put version at s. absurd (missed_is_no_get h op k s.key s.content s.version nothing s.got);
+      source = λ p put version at s. absurd (missed_gets_nothing h op k s.version nothing (s.key, s.content, s.got));
     }
 
   module _ (op : OpName) (place : ℕ) (got : IsSeen h table op (seen.Sourceless place)) (waits : IsWaiting h op) where
     would_wait : (p : ℕ) (put : OpName) (version : ℕ) → StandsAt table p put version → WouldBeNewer h op put version → OnKey h table p got.0.key × (place ≤ p)
-    would_wait p put version at (key', puts, inr nothing) = absurd (missed_is_no_get h op key' got.0.key got.0.content got.0.version nothing got.0.got)
+    would_wait p put version at (key', puts, inr nothing) = absurd (missed_gets_nothing h op key' got.0.version nothing (got.0.key, got.0.content, got.0.got))
     would_wait p put version at (key', puts, inl g) =
         let same = one_got h op key' got.0.key g.0 got.0.content g.1 got.0.version g.2 got.0.got in
         let not : ¬ (p < place) = λ l. let low = got.1.before p put version at l in omega (arith, low, same.1, g.3) in
@@ -96,7 +91,7 @@ module _ (h : Sessions) (table : List VersionedPut) (t : IsVersionTable h table)
     on_source = (got.0, got.1, got.2, source_key)
 
     would_got : (p : ℕ) (put : OpName) (version : ℕ) → StandsAt table p put version → WouldBeNewer h op put version → OnKey h table p got.4.key × (place < p)
-    would_got p put version at (key', puts, inr nothing) = absurd (missed_is_no_get h op key' got.4.key got.4.content got.4.version nothing got.4.got)
+    would_got p put version at (key', puts, inr nothing) = absurd (missed_gets_nothing h op key' got.4.version nothing (got.4.key, got.4.content, got.4.got))
     would_got p put version at (key', puts, inl g) =
         let same = one_got h op key' got.4.key g.0 got.4.content g.1 got.4.version g.2 got.4.got in
         let v : g.1 ≡ got.1 = same.1 ∙ version_is in

@@ -45,8 +45,7 @@ loop-place-preserved c =
       ];
       firsts = λ other q there. elim (cases_eq other number) [
         | inl same ↦
-            let both : Some key ≡ Some q = sym at ∙ ap (slice_get keys) (sym same) ∙ there in
-            let one : key ≡ q = cc in
+            let one : key ≡ q = cc (at, same, there) in
             let now : slice_index_or (slice_set firsts number (Some k)) other None ≡ Some k = ap (λ (j : ℕ). slice_index_or (slice_set firsts number (Some k)) j None) same ∙ get_or-set_same firsts number (Some k) None inside in
             subst (IsFirstFrom h table k q) (sym now) (first_here h table c.requires.table.rising k q (subst (OnKey h table k) one here))
         | inr differs ↦

@@ -37,7 +37,7 @@ loop-place-preserved c =
     record {
       len = omega (arith, length-set places number k, l.len);
       reports = reported_more h puts table c.requires k c.loop-place-test.true c.index-table-place.result number at alone places l.len l.reports;
-      all = all_more h puts table c.requires k c.loop-place-test.true c.index-table-place.result number at alone places l.len l.all;
+      numbered = all_more h puts table c.requires k c.loop-place-test.true c.index-table-place.result number at alone places l.len l.numbered;
       capacity = l.capacity;
     }
 
@@ -50,8 +50,9 @@ returns-clause-places c =
       all = λ k inside.
           let none : VersionedPut = record { version = 0; name = record { client = 0; index = 0 } } in
           let put = slice_index_or table k none in
-          let reported = l.all k put.name put.version (omega (arith, inside, c.loop-place-test.false)) (stands_at table k none inside) in
-          (reported.0, reported.2);
+          let stands = stands_at table k none inside in
+          let numbered = l.numbered k put.name put.version (omega (arith, inside, c.loop-place-test.false)) stands in
+          (numbered.0, l.reports k numbered.0 put.name put.version (omega (arith, inside, c.loop-place-test.false)) stands numbered.1);
     }
 
 pub returns-in_err-resize-clause-succeeds : goal.returns-in_err-resize-clause-succeeds
