@@ -1,6 +1,7 @@
 -- What causal summaries say of a history, for sweeps: steps, pasts and newest puts.
 use Rattle.std.proofs.Common.{rules, ◌≡◌, ◌<◌, ◌≤◌, ℕ, List, [], length, get_or, Some, ◌∙◌, ap, subst, inl, inr, arith, slice_index_or, slice_get}
 use Rattle.std.proofs.lemmas.Option.{slice_get_within}
+use Rattle.std.proofs.lemmas.Grind.{common_steps}
 use Rattle.cops_types.specs.declared.op.OpName.{OpName}
 use Rattle.cops_types.specs.Histories.{Sessions, IsNamed, SourceStep}
 use Rattle.cops_types.specs.Past.{Step, Past, step, more}
@@ -39,9 +40,7 @@ module _ (h : Sessions) (table : List VersionedPut) (t : IsVersionTable h table)
 
   -- a summary is of an operation of the history
   summarized_named : (n : OpName) (summary : Summary) → summary_at summaries n ≡ Some summary → IsNamed h n
-  summarized_named n summary at =
-      let session = session_of h table summaries summarized n summary at in
-      slice_get_there (slice_index_or h n.client []) n.index (omega (arith, session.whole, slice_get_within (slice_index_or summaries n.client []) n.index summary at))
+  summarized_named n summary at = grind (arith, common_steps)
 
   module _ (sources : HaveSourcesOrWait h) where
     -- the summary of a put at a place

@@ -7,6 +7,7 @@ use Rattle.std.proofs.lemmas.List.{take_more, get_or_default}
 use Rattle.std.proofs.Common.{append_assoc, append-nil, get_or-take, length-append, length-take}
 use lib.ListN.{get_or-append}
 use lib.Seq.{get_or-append_seam}
+use Rattle.std.proofs.lemmas.Grind.{common_steps}
 use Rattle.cops_types.specs.declared.op.OpName.{OpName}
 use Rattle.cops_types.specs.Faults.{IsBefore, Lists}
 use Rattle.cops_audit.specs.Names.{ListsAmong}
@@ -144,7 +145,4 @@ among_same name_of F G names faults same lists = record {
 
 -- what holds of each element so far and of the next one
 pub each_next : {A : Type 0} (P : A → Type 0) (xs : List A) (i : ℕ) (e : A) → i < length xs → ((k : ℕ) (d : A) → k < i → P (get_or xs k d)) → P (get_or xs i e) → (k : ℕ) (d : A) → k < i + 1 → P (get_or xs k d)
-each_next P xs i e inside old new k d less = elim (eq-or-lt_of_le (let le : k ≤ i = omega (arith, less) in le)) [
-  | inl same ↦ subst (λ (j : ℕ). P (get_or xs j d)) (sym same) (subst P (get_or-default xs i e d inside) new)
-  | inr before ↦ old k d before
-]
+each_next P xs i e inside old new k d less = grind (arith, common_steps)

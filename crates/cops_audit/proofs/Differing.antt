@@ -8,15 +8,13 @@ use Rattle.std.proofs.lemmas.List.{length-map, get_or-map}
 use Rattle.std.proofs.lemmas.List.Sorted.{IsPermutation-map}
 use Rattle.std.proofs.lemmas.Map.Keys.{IsDistinct-IsPermutation}
 use Rattle.std.proofs.lemmas.Map.Made.{AllPairs-from_IsDistinct, IsDistinct-from_AllPairs}
+use Rattle.std.proofs.lemmas.Grind.{common_steps}
 use Rattle.cops_types.specs.declared.op.OpName.{OpName}
 use Rattle.cops_types.specs.declared.versioned_put.VersionedPut.{VersionedPut}
 use Rattle.cops_audit.proofs.Acyclic.{same_name}
 
 pub name_cases : (a b : OpName) → (a ≡ b) ⊎ (a ≢ b)
-name_cases a b = elim (cases_eq a.client b.client) [
-  | inl client ↦ elim (cases_eq a.index b.index) [ inl index ↦ inl (same_name a b client index) | inr differ ↦ inr (λ e. differ (cc)) ]
-  | inr differ ↦ inr (λ e. differ (cc))
-]
+name_cases a b = grind (arith, common_steps)
 
 abbrev is_same : OpName → OpName → Bool
 is_same a b = eqb a.client b.client && eqb a.index b.index

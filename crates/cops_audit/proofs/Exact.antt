@@ -13,7 +13,7 @@ use Rattle.cops_audit.proofs.Firsts.{versions_rise, none_newer}
 use Rattle.cops_audit.specs.Names.{names_of}
 use Rattle.cops_audit.proofs.Naming.{names_listed}
 use Rattle.cops_audit.proofs.Listing.{first_or_later}
-use Rattle.cops_audit.proofs.PastOrder.{past_order, precedes_past, past_precedes, past_joined, source_cases}
+use Rattle.cops_audit.proofs.PastOrder.{past_order, precedes_past, past_precedes, past_joined, source_dec}
 
 -- a place in a list, and that the list has the element
 place_of : {A : Type 0} (xs : List A) (x : A) → Contains xs x → (i : ℕ) × (slice_get xs i ≡ Some x)
@@ -42,9 +42,9 @@ module _ (h : Sessions) (names : List OpName) (by_version : IsVersionOrder h nam
 -- a get's source is found, where there is one
 find_source : (h : Sessions) (got : OpName) (names : List OpName) → ((s : OpName) × SourceStep h s got) ⊎ ((s : OpName) → Contains names s → ¬ SourceStep h s got)
 find_source h got [] = inr (λ s there is. omega (arith, there.1))
-find_source h got (n ∷ ns) = elim (source_cases h n got) [
-  | inl is ↦ inl (n, is)
-  | inr differs ↦ elim (find_source h got ns) [
+find_source h got (n ∷ ns) = elim (source_dec h n got) [
+  | yes is ↦ inl (n, is)
+  | no differs ↦ elim (find_source h got ns) [
     | inl found ↦ inl found
     | inr none ↦ inr (λ s there is. elim (first_or_later n ns s there) [ inl same ↦ differs (subst (λ x. SourceStep h x got) (sym same) is) | inr later ↦ none s later is ])
   ]

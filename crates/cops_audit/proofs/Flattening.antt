@@ -2,6 +2,7 @@
 use Rattle.std.proofs.Common.{◌≡◌, ◌-◌, ℕ, suc, List, [], ◌∷◌, ◌++◌, length, map, All, length-append, length-drop, take_all, refl, ◌∙◌, ap, arith, drop, take}
 use Rattle.std.proofs.lemmas.List.{drop-append-le, drop_at, map_push, take-append-le}
 use Rattle.std.proofs.lemmas.List.Elements.{All-push}
+use Rattle.std.proofs.lemmas.Grind.{common_steps}
 use Rattle.cops_audit.specs.declared.flat.Span.{Span}
 use Rattle.cops_audit.specs.declared.summaries.Summary.{Summary}
 use Rattle.cops_audit.specs.Summaries.{IsWithin, span_of}
@@ -9,9 +10,7 @@ use Rattle.cops_audit.specs.Summaries.{IsWithin, span_of}
 module _ (summaries session : List Summary) where
   -- a span of the summaries stays as it is where more follow
   span_kept : (span : Span) → IsWithin summaries span → span_of (summaries ++ session) span ≡ span_of summaries span
-  span_kept span within =
-      ap (take (span.to - span.from)) (drop-append-le span.from summaries session (omega (arith, within.0, within.1)))
-      ∙ take-append-le (span.to - span.from) (drop span.from summaries) session (omega (arith, length-drop span.from summaries, within.0, within.1))
+  span_kept span within = grind (arith, common_steps)
 
   spans_kept : (spans : List Span) → All (IsWithin summaries) spans → map (span_of (summaries ++ session)) spans ≡ map (span_of summaries) spans
   spans_kept [] within = refl
@@ -23,9 +22,7 @@ module _ (summaries session : List Summary) where
   -- one more session
   module _ (spans : List Span) (from to : ℕ) (starts : length summaries ≡ from) (ends : length (summaries ++ session) ≡ to) (within : All (IsWithin summaries) spans) where
     whole : span_of (summaries ++ session) (record { from = from; to = to }) ≡ session
-    whole =
-        ap (take (to - from)) (drop_at summaries session from starts)
-        ∙ take_all (to - from) session (omega (arith, starts, ends, length-append summaries session))
+    whole = grind (arith, common_steps)
 
     pub sessions_more : map (span_of (summaries ++ session)) (spans ++ record { from = from; to = to } ∷ []) ≡ map (span_of summaries) spans ++ session ∷ []
     sessions_more =
@@ -34,7 +31,4 @@ module _ (summaries session : List Summary) where
         ∙ ap (λ s. map (span_of summaries) spans ++ s ∷ []) whole
 
     pub within_more : All (IsWithin (summaries ++ session)) (spans ++ record { from = from; to = to } ∷ [])
-    within_more =
-        All-push (IsWithin (summaries ++ session)) spans (record { from = from; to = to })
-        (λ k d inside. let w = within k d inside in (w.0, omega (arith, w.1, length-append summaries session)))
-        (omega (arith, starts, ends, length-append summaries session), omega (arith, ends))
+    within_more = grind (arith, common_steps)

@@ -5,6 +5,7 @@ use Rattle.std.specs.Result.{is_err}
 use Rattle.std.proofs.lemmas.Bool.{cases_lt}
 use Rattle.std.proofs.lemmas.List.{get_or_past, length-map, length-replicate}
 use Rattle.std.proofs.lemmas.List.Sums.{sum_by-cons}
+use Rattle.std.proofs.lemmas.Grind.{common_steps}
 use Rattle.cops_types.specs.Histories.{Sessions}
 use Rattle.cops_types.specs.Counts.{count_of}
 use Rattle.cops_audit.specs.declared.summaries.Summary.{Summary}
@@ -25,10 +26,7 @@ succeeded (Err x) P p e = absurd cc
 -- there is a summary for each operation
 as_long : (h : Sessions) (table : List VersionedPut) (summaries : List (List Summary)) → IsSummarized h table summaries
     → (c : ℕ) → length (slice_index_or summaries c []) ≡ length (slice_index_or h c [])
-as_long h table summaries summarized c = elim (cases_lt c (length h)) [
-  | inl inside ↦ (summarized.sessions c inside).whole
-  | inr le ↦ ap length (get_or_past summaries c [] (omega (arith, le, summarized.clients))) ∙ sym (ap length (get_or_past h c [] le))
-]
+as_long h table summaries summarized c = grind (arith, common_steps)
 
 -- there are as many summaries as operations
 sum_same : {A B : Type 0} (xs : List (List A)) (ys : List (List B)) → length xs ≡ length ys → ((i : ℕ) → length (get_or xs i []) ≡ length (get_or ys i [])) → sum_by (λ n. n) (map length xs) ≡ sum_by length ys

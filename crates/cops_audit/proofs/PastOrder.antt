@@ -1,6 +1,8 @@
 -- The past of an operation is decided, and so it is a finite set of pairs.
 use Rattle.std.proofs.Common.{◌≡◌, ◌≢◌, ◌<◌, ◌⊎◌, ℕ, zero, suc, List, [], ◌∷◌, ◌++◌, Option, Some, None, refl, sym, ◌∙◌, ap, subst, inl, inr, arith, slice_get, slice_index_or, Contains, map}
-use Rattle.std.proofs.lemmas.Bool.{cases_eq, cases_lt}
+use mathlib.Core.Logic.Dec as dec
+use mathlib.Core.List.{List-discrete}
+use native.Mathlib.Decide.{dec_lt, map_dec, ℕ_discrete}
 use Rattle.std.proofs.lemmas.List.{length-map, get_or-map}
 use Rattle.std.proofs.lemmas.List.Elements.{Contains-append_left, Contains-append_right}
 use Rattle.cops_types.specs.declared.op.OpName.{OpName}
@@ -10,57 +12,40 @@ use Rattle.cops_types.specs.Convergence.{Order, Precedes}
 use Rattle.cops_audit.specs.Names.{names_of}
 use Rattle.cops_audit.proofs.Listing.{first_or_later, later}
 use Rattle.cops_audit.proofs.Naming.{names_listed}
-use Rattle.cops_audit.proofs.Reach.{either_holds, Linked, linked_cases, step_linked, joined}
+use Rattle.cops_audit.proofs.Reach.{either_dec, Linked, linked_dec, step_linked, joined}
 
-bytes_cases : (xs ys : List ℕ) → (xs ≡ ys) ⊎ (xs ≢ ys)
-bytes_cases [] [] = inl refl
-bytes_cases [] (y ∷ ys) = inr (λ e. absurd cc)
-bytes_cases (x ∷ xs) [] = inr (λ e. absurd cc)
-bytes_cases (x ∷ xs) (y ∷ ys) = elim (cases_eq x y) [
-  | inl e ↦ elim (bytes_cases xs ys) [ inl f ↦ inl (cc) | inr differ ↦ inr (λ f. differ (cc)) ]
-  | inr differ ↦ inr (λ f. differ (cc))
-]
-
-content_cases : (x y : Option (List ℕ)) → (x ≡ y) ⊎ (x ≢ y)
-content_cases (Some xs) (Some ys) = elim (bytes_cases xs ys) [ inl e ↦ inl (ap Some e) | inr differ ↦ inr (λ f. differ (cc)) ]
-content_cases (Some xs) None = inr (λ e. absurd cc)
-content_cases None (Some ys) = inr (λ e. absurd cc)
-content_cases None None = inl refl
+content_dec : (x y : Option (List ℕ)) → Dec (x ≡ y)
+content_dec (Some xs) (Some ys) = map_dec (λ e. ap Some e) (λ e. cc) (List-discrete ℕ_discrete xs ys)
+content_dec (Some xs) None = no (λ e. absurd cc)
+content_dec None (Some ys) = no (λ e. absurd cc)
+content_dec None None = yes refl
 
 -- whether one operation is a put and another is a get that returned it
-pub source_cases : (h : Sessions) (a b : OpName) → SourceStep h a b ⊎ (¬ SourceStep h a b)
-source_cases h a b = by_ops (op_at h a) (op_at h b) refl refl
+pub source_dec : (h : Sessions) (a b : OpName) → Dec (SourceStep h a b)
+source_dec h a b = by_ops (op_at h a) (op_at h b) refl refl
   where
-    by_ops : (p q : Option Operation) → op_at h a ≡ p → op_at h b ≡ q → SourceStep h a b ⊎ (¬ SourceStep h a b)
-    by_ops (Some (write k x v)) (Some (read l y w)) e f = elim (bytes_cases k l) [
-      | inl kl ↦ elim (content_cases x y) [
-        | inl xy ↦ elim (cases_eq v w) [
-          | inl vw ↦ inl (record { key = k; content = x; version = v; put = e; got = cc })
-          | inr differ ↦ inr (λ s. differ (let p = s.put in let q = s.got in cc))
-        ]
-        | inr differ ↦ inr (λ s. differ (let p = s.put in let q = s.got in cc))
-      ]
-      | inr differ ↦ inr (λ s. differ (let p = s.put in let q = s.got in cc))
-    ]
-    by_ops (Some (write k x v)) (Some (write l y w)) e f = inr (λ s. let q = s.got in absurd cc)
-    by_ops (Some (write k x v)) (Some (missed l)) e f = inr (λ s. let q = s.got in absurd cc)
-    by_ops (Some (write k x v)) None e f = inr (λ s. let q = s.got in absurd cc)
-    by_ops (Some (read k x v)) q e f = inr (λ s. let p = s.put in absurd cc)
-    by_ops (Some (missed k)) q e f = inr (λ s. let p = s.put in absurd cc)
-    by_ops None q e f = inr (λ s. let p = s.put in absurd cc)
+    by_ops : (p q : Option Operation) → op_at h a ≡ p → op_at h b ≡ q → Dec (SourceStep h a b)
+    by_ops (Some (write k x v)) (Some (read l y w)) e f =
+        map_dec (λ s. let kl = s.0 in let xy = s.1.0 in let vw = s.1.1 in record { key = k; content = x; version = v; put = e; got = cc })
+        (λ s. let put = s.put in let got = s.got in (cc, (cc, cc)))
+        (dec.and (List-discrete ℕ_discrete k l) (dec.and (content_dec x y) (ℕ_discrete v w)))
+    by_ops (Some (write k x v)) (Some (write l y w)) e f = no (λ s. let got = s.got in absurd cc)
+    by_ops (Some (write k x v)) (Some (missed l)) e f = no (λ s. let got = s.got in absurd cc)
+    by_ops (Some (write k x v)) None e f = no (λ s. let got = s.got in absurd cc)
+    by_ops (Some (read k x v)) q e f = no (λ s. let put = s.put in absurd cc)
+    by_ops (Some (missed k)) q e f = no (λ s. let put = s.put in absurd cc)
+    by_ops None q e f = no (λ s. let put = s.put in absurd cc)
 
-session_cases : (h : Sessions) (a b : OpName) → SessionStep h a b ⊎ (¬ SessionStep h a b)
-session_cases h a b = elim (cases_eq a.client b.client) [
-  | inl same ↦ elim (cases_lt a.index b.index) [
-    | inl less ↦ by_op (op_at h b) refl same less
-    | inr le ↦ inr (λ s. omega (arith, s.earlier, le))
-  ]
-  | inr differ ↦ inr (λ s. differ s.same_client)
-]
+named_dec : (h : Sessions) (name : OpName) → Dec (IsNamed h name)
+named_dec h name = by_op (op_at h name) refl
   where
-    by_op : (q : Option Operation) → op_at h b ≡ q → a.client ≡ b.client → a.index < b.index → SessionStep h a b ⊎ (¬ SessionStep h a b)
-    by_op (Some op) e same less = inl (record { same_client = same; earlier = less; is_there = (op, e) })
-    by_op None e same less = inr (λ s. let f = s.is_there.1 in absurd cc)
+    by_op : (q : Option Operation) → op_at h name ≡ q → Dec (IsNamed h name)
+    by_op (Some op) e = yes (op, e)
+    by_op None e = no (λ named. let there = named.1 in absurd cc)
+
+session_dec : (h : Sessions) (a b : OpName) → Dec (SessionStep h a b)
+session_dec h a b = map_dec (λ s. record { same_client = s.0; earlier = s.1.0; is_there = s.1.1 }) (λ s. (s.same_client, (s.earlier, s.is_there)))
+    (dec.and (ℕ_discrete a.client b.client) (dec.and (dec_lt a.index b.index) (named_dec h b)))
 
 pub earlier_there : (s : List Operation) (i j : ℕ) → i < j → (op : Operation) × (slice_get s j ≡ Some op) → (op : Operation) × (slice_get s i ≡ Some op)
 earlier_there [] i j less at = absurd cc
@@ -87,11 +72,8 @@ past_linked h a {b} (step s) = step_linked (Step h) (names_of h) a b s
 past_linked h a {b} (more {by = m} p s) =
     joined (Step h) (names_of h) a m b (((names_listed h).members m).1 (from_there h m b s)) (past_linked h a p) (step_linked (Step h) (names_of h) m b s)
 
-past_cases : (h : Sessions) (a b : OpName) → Past h a b ⊎ (¬ Past h a b)
-past_cases h a b = elim (linked_cases (Step h) (λ x y. either_holds (session_cases h x y) (source_cases h x y)) (names_of h) a b) [
-  | inl l ↦ inl (linked_past h (names_of h) a b l)
-  | inr none ↦ inr (λ p. none (past_linked h a p))
-]
+past_dec : (h : Sessions) (a b : OpName) → Dec (Past h a b)
+past_dec h a b = map_dec (λ l. linked_past h (names_of h) a b l) (λ p. past_linked h a p) (linked_dec (Step h) (λ x y. either_dec (session_dec h x y) (source_dec h x y)) (names_of h) a b)
 
 -- both ends of a past are in the history
 pub past_from : (h : Sessions) (a : OpName) {b : OpName} → Past h a b → IsNamed h a
@@ -109,8 +91,8 @@ pasts_among : (h : Sessions) (ps : Order) → (order : Order) × ((a b : OpName)
 pasts_among h [] = ([], λ a b. (λ at. absurd (omega (arith, at.1)), λ p at. absurd (omega (arith, at.1))))
 pasts_among h (q ∷ qs) =
     let rest = pasts_among h qs in
-    elim (past_cases h q.0 q.1) [
-      | inl past ↦ (
+    elim (past_dec h q.0 q.1) [
+      | yes past ↦ (
         q ∷ rest.0,
         λ a b. (
           (λ at. elim (first_or_later q rest.0 (a, b) at) [ inl same ↦ subst (λ (p : OpName × OpName). Past h p.0 p.1) same past | inr there ↦ (rest.1 a b).0 there ]),
@@ -120,7 +102,7 @@ pasts_among h (q ∷ qs) =
           ]),
         ),
       )
-      | inr none ↦ (
+      | no none ↦ (
         rest.0,
         λ a b. (
           (rest.1 a b).0,
