@@ -1,7 +1,7 @@
 -- Where each put's version is above all versions that its session put or got before, steps have no cycle.
 use Rattle.std.proofs.Common.{rules, ◌≡◌, ◌<◌, ◌≤◌, ◌⊎◌, ℕ, refl, sym, ◌∙◌, ap, inl, inr, arith}
 use Rattle.cops_types.specs.declared.op.OpName.{OpName}
-use Rattle.cops_types.specs.Histories.{Sessions, PutsVersion}
+use Rattle.cops_types.specs.Histories.{Sessions, PutsVersion, SourceStep}
 use Rattle.cops_types.specs.Operations.{GetsVersion}
 use Rattle.cops_types.specs.Past.{Step, Past, step, more}
 use Rattle.cops_types.specs.Faults.{IsNotBelow}
@@ -21,17 +21,15 @@ one_version h p q v w first second e = search rules
 abbrev pub AtOrBefore : OpName → OpName → Type 0
 AtOrBefore a b = (a.client ≡ b.client) × (a.index ≤ b.index)
 
--- a put in the session of the one, at or after it, and a get in the session of the other, at or before it, that returned that version or a later one
-pub record Crosses (h : Sessions) (from to : OpName) : Type 0 where
+-- a put in the session of the one, at or after it, with a version that is not above that of the other, a get
+pub record Crosses (h : Sessions) (from got : OpName) : Type 0 where
   pub put : OpName
-  pub got : OpName
   pub v : ℕ
   pub w : ℕ
   pub is_put : PutsVersion h put v
   pub is_got : GetsVersion h got w
   pub rises : v ≤ w
   pub after_from : AtOrBefore from put
-  pub before_to : AtOrBefore got to
 
 -- no put has an earlier put or get of its session with a version that is not below its own
 abbrev pub VersionsRise : Sessions → Type 0
@@ -51,61 +49,41 @@ module _ (h : Sessions) (rise : VersionsRise h) where
       let not : ¬ (w ≤ v) = λ le. rise p q (record { version = v; own = w; put = second; has = inl first; same_client = same; before = before; not_below = le }) in
       omega (arith, not)
 
-  -- what is in the past is earlier in the session, or is seen through a get
+  -- what is in the past is earlier in the session, or is seen through a get at or before the operation
   abbrev Precise : OpName → OpName → Type 0
-  Precise a b = ((a.client ≡ b.client) × (a.index < b.index)) ⊎ Crosses h a b
+  Precise a b = ((a.client ≡ b.client) × (a.index < b.index)) ⊎ ((got : OpName) × Crosses h a got × AtOrBefore got b)
+
+  crossing : (a b c : OpName) → AtOrBefore a b → SourceStep h b c → Crosses h a c
+  crossing a b c at s = record {
+    put = b;
+    v = s.version;
+    w = s.version;
+    is_put = (s.key, s.content, s.put);
+    is_got = (s.key, s.content, s.got);
+    rises = omega arith;
+    after_from = at;
+  }
 
   more_precise : (a b c : OpName) → Precise a b → Step h b c → Precise a c
   more_precise a b c (inl e) (inl s) = inl (e.0 ∙ s.same_client, omega (arith, s.earlier, e.1))
-  more_precise a b c (inl e) (inr s) = inr (record {
-    put = b;
-    got = c;
-    v = s.version;
-    w = s.version;
-    is_put = (s.key, s.content, s.put);
-    is_got = (s.key, s.content, s.got);
-    rises = omega arith;
-    after_from = (e.0, omega (arith, e.1));
-    before_to = (refl, omega arith);
-  })
-  more_precise a b c (inr x) (inl s) = inr (record {
-    put = x.put;
-    got = x.got;
-    v = x.v;
-    w = x.w;
-    is_put = x.is_put;
-    is_got = x.is_got;
-    rises = x.rises;
-    after_from = x.after_from;
-    before_to = (x.before_to.0 ∙ s.same_client, omega (arith, s.earlier, x.before_to.1));
-  })
+  more_precise a b c (inl e) (inr s) = inr (c, crossing a b c (e.0, omega (arith, e.1)) s, (refl, omega arith))
+  more_precise a b c (inr x) (inl s) = inr (x.0, x.1, (x.2.0 ∙ s.same_client, omega (arith, s.earlier, x.2.1)))
   more_precise a b c (inr x) (inr s) =
-      let below : x.w < s.version = got_below x.got b x.w s.version x.is_got (s.key, s.content, s.put) x.before_to in
-      inr (record {
-        put = x.put;
-        got = c;
-        v = x.v;
+      let below : x.1.w < s.version = got_below x.0 b x.1.w s.version x.1.is_got (s.key, s.content, s.put) x.2 in
+      let crosses : Crosses h a c = record {
+        put = x.1.put;
+        v = x.1.v;
         w = s.version;
-        is_put = x.is_put;
+        is_put = x.1.is_put;
         is_got = (s.key, s.content, s.got);
-        rises = omega (arith, below, x.rises);
-        after_from = x.after_from;
-        before_to = (refl, omega arith);
-      })
+        rises = omega (arith, below, x.1.rises);
+        after_from = x.1.after_from;
+      } in
+      inr (c, crosses, (refl, omega arith))
 
   pub precise : {a b : OpName} → Past h a b → Precise a b
   precise {a} {b} (step (inl s)) = inl (s.same_client, s.earlier)
-  precise {a} {b} (step (inr s)) = inr (record {
-    put = a;
-    got = b;
-    v = s.version;
-    w = s.version;
-    is_put = (s.key, s.content, s.put);
-    is_got = (s.key, s.content, s.got);
-    rises = omega arith;
-    after_from = (refl, omega arith);
-    before_to = (refl, omega arith);
-  })
+  precise {a} {b} (step (inr s)) = inr (b, crossing a a b (refl, omega arith) s, (refl, omega arith))
   precise {a} {b} (more {by = by} past s) = more_precise a by b (precise past) s
 
   -- no operation is in its own past
@@ -114,7 +92,7 @@ module _ (h : Sessions) (rise : VersionsRise h) where
     where
       not_itself : ¬ Precise a a
       not_itself (inl e) = omega (arith, e.1)
-      not_itself (inr x) = omega (arith, x.rises, got_below x.got x.put x.w x.v x.is_got x.is_put (x.before_to.0 ∙ x.after_from.0, omega (arith, x.before_to.1, x.after_from.1)))
+      not_itself (inr x) = omega (arith, x.1.rises, got_below x.0 x.1.put x.1.w x.1.v x.1.is_got x.1.is_put (x.2.0 ∙ x.1.after_from.0, omega (arith, x.2.1, x.1.after_from.1)))
 
   -- puts in the past have lower versions
   pub past_below : (p q : OpName) (v w : ℕ) → PutsVersion h p v → PutsVersion h q w → Past h p q → v < w
@@ -130,4 +108,4 @@ module _ (h : Sessions) (rise : VersionsRise h) where
 
       by_cases : Precise p q → v < w
       by_cases (inl e) = put_below p q v w first second e.0 e.1
-      by_cases (inr x) = omega (arith, x.rises, same_put x.put x.v x.is_put x.after_from, got_below x.got q x.w w x.is_got second x.before_to)
+      by_cases (inr x) = omega (arith, x.1.rises, same_put x.1.put x.1.v x.1.is_put x.1.after_from, got_below x.0 q x.1.w w x.1.is_got second x.2)

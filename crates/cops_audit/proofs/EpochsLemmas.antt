@@ -1,6 +1,7 @@
 -- Epoch arrays: numbers that count only in the epoch in which they were written.
 use Rattle.std.proofs.Common.{◌≡◌, ◌<◌, ◌+◌, ◌++◌, ◌∙◌, ℕ, zero, suc, List, [], ◌∷◌, length, map, replicate, Bool, cond, true, false, eqb, refl, sym, ap, arith, All, append_assoc, length-append, slice_set}
 use Rattle.std.proofs.lemmas.Bool.{eqb-true, eq-eqb, false_from_ne_true}
+use Rattle.std.proofs.lemmas.Grind.{common_steps}
 use Rattle.std.proofs.lemmas.List.{length-map, length-replicate, map-append, map-set, replicate-append-replicate, set-append_left}
 use Rattle.cops_audit.specs.declared.epochs.EpochEntry.{EpochEntry}
 use Rattle.cops_audit.specs.EpochNumbers.{number_in, numbers_in}
@@ -27,11 +28,7 @@ zeros t (suc n) =
     cc
   where
     zero_in : (t : ℕ) → number_in t (record { epoch = 0; number = 0 }) ≡ 0
-    zero_in t = if_same (eqb 0 t)
-      where
-        if_same : (b : Bool) → ◌≡◌ {A = ℕ} (cond b 0 0) 0
-        if_same true = refl
-        if_same false = refl
+    zero_in t = grind (arith, common_steps)
 
 pub restarted : (t : ℕ) (xs : List EpochEntry) (n : ℕ) → All (λ e. e.epoch < t) xs → numbers_in t xs n ≡ replicate (length xs + n) 0
 restarted t xs n earlier = ap (λ (ys : List ℕ). ys ++ replicate n 0) (all_zero t xs earlier) ∙ replicate-append-replicate (length xs) n 0

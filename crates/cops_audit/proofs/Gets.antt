@@ -20,25 +20,22 @@ pub source_at : (h : Sessions) (table : List VersionedPut) → IsVersionTable h 
 source_at h table t put got v place gets inside at s =
     place_for h table t put v place (subst (PutsVersion h put) (one_get_version h got s.version v (s.key, s.content, s.got) gets) (s.key, s.content, s.put)) inside at
 
--- a get has no source where no put has its version
-pub sourceless : (h : Sessions) (table : List VersionedPut) → IsVersionTable h table → (got : OpName) (v : ℕ) → GetsVersion h got v
-    → ((k : ℕ) (d : VersionedPut) → k < length table → ¬ ((get_or table k d).version ≡ v)) → HasNoSource h got
-sourceless h table t got v gets none = record {
-  key = gets.0;
-  content = gets.1;
-  version = v;
-  got = gets.2;
-  none = λ put s.
-      let at = place_of_put h table t.table put v (subst (PutsVersion h put) (one_get_version h got s.version v (s.key, s.content, s.got) gets) (s.key, s.content, s.put)) in
-      let d : VersionedPut = record { version = v; name = put } in
-      none at.0 d at.1 (ap (λ (q : VersionedPut). q.version) (at.2 d));
-}
-
 -- a get has no source where no put has its version, and the place that the search gives divides the puts by that version
 pub sourceless_at : (h : Sessions) (table : List VersionedPut) (t : IsVersionTable h table) (got : OpName) (v : ℕ) → GetsVersion h got v
     → ((k : ℕ) (d : VersionedPut) → k < length table → ¬ ((get_or table k d).version ≡ v)) → (place : ℕ) → Divides table place v → (f : HasNoSource h got) × Divides table place f.version
-unfolding sourceless
-sourceless_at h table t got v gets none place divides = (sourceless h table t got v gets none, divides)
+sourceless_at h table t got v gets none place divides = (
+  record {
+    key = gets.0;
+    content = gets.1;
+    version = v;
+    got = gets.2;
+    none = λ put s.
+        let at = place_of_put h table t.table put v (subst (PutsVersion h put) (one_get_version h got s.version v (s.key, s.content, s.got) gets) (s.key, s.content, s.put)) in
+        let d : VersionedPut = record { version = v; name = put } in
+        none at.0 d at.1 (ap (λ (q : VersionedPut). q.version) (at.2 d));
+  },
+  divides,
+)
 
 -- a put's place divides the puts by its version
 pub divides_at : (h : Sessions) (table : List VersionedPut) → IsVersionTable h table → (place : ℕ) (put : OpName) (version : ℕ) → StandsAt table place put version → Divides table place version

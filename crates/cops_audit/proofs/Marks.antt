@@ -1,5 +1,6 @@
 -- The mark of a session: what its operations saw is below it.
-use Rattle.std.proofs.Common.{rules, ◌≡◌, ◌<◌, ◌≤◌, ◌+◌, ◌⊎◌, ℕ, zero, suc, List, [], ◌∷◌, ◌++◌, length, Some, refl, sym, ◌∙◌, ap, subst, inl, inr, arith, slice_get}
+use Rattle.std.proofs.Common.{rules, ◌≡◌, ◌<◌, ◌≤◌, ◌+◌, ◌⊎◌, ℕ, zero, suc, List, [], ◌∷◌, ◌++◌, length, Some, refl, sym, ◌∙◌, ap, subst, inl, inr, arith, max, slice_get}
+use Rattle.std.proofs.lemmas.Bool.{cases_lt}
 use Rattle.std.proofs.lemmas.Option.{slice_get_within}
 use Rattle.cops_audit.specs.declared.summaries.Summary.{Summary}
 use Rattle.cops_audit.specs.Summaries.{above, IsMark}
@@ -27,24 +28,20 @@ mark_kept session summary count mark short m = record {
   reached = elim m.reached [ inl none ↦ inl none | inr r ↦ inr (r.0, r.1, r.2, slice_get_kept session summary r.1 r.0 r.3, r.4) ];
 }
 
--- one more operation, whose place is not above the mark
-pub mark_stays : (session : List Summary) (summary : Summary) (count mark : ℕ) → length session ≡ count → IsMark session count mark → above summary.seen ≤ mark → IsMark (session ++ summary ∷ []) (count + 1) mark
-mark_stays session summary count mark len m low = record {
+-- one more operation, whose place raises the mark where it is above it
+pub mark_more : (session : List Summary) (summary : Summary) (count mark : ℕ) → length session ≡ count → IsMark session count mark → IsMark (session ++ summary ∷ []) (count + 1) (max mark (above summary.seen))
+mark_more session summary count mark len m = record {
   bounds = λ i x less at. elim (slice_get_push session summary x i at) [
-    | inl old ↦ m.bounds i x (omega (arith, slice_get_within session i x old, len)) old
-    | inr new ↦ subst (λ (y : Summary). above y.seen ≤ mark) new.1 low
+    | inl old ↦ omega (arith, m.bounds i x (omega (arith, slice_get_within session i x old, len)) old)
+    | inr new ↦ let e : above summary.seen ≡ above x.seen = ap (λ (y : Summary). above y.seen) new.1 in omega (arith, e)
   ];
-  reached = elim m.reached [ inl none ↦ inl none | inr r ↦ inr (r.0, r.1, omega (arith, r.2), slice_get_kept session summary r.1 r.0 r.3, r.4) ];
-}
-
--- one more operation, whose place is above it
-pub mark_rises : (session : List Summary) (summary : Summary) (count mark : ℕ) → length session ≡ count → IsMark session count mark → mark < above summary.seen → IsMark (session ++ summary ∷ []) (count + 1) (above summary.seen)
-mark_rises session summary count mark len m high = record {
-  bounds = λ i x less at. elim (slice_get_push session summary x i at) [
-    | inl old ↦ omega (arith, m.bounds i x (omega (arith, slice_get_within session i x old, len)) old, high)
-    | inr new ↦ subst (λ (y : Summary). above y.seen ≤ above summary.seen) new.1 (omega arith)
+  reached = elim (cases_lt mark (above summary.seen)) [
+    | inl high ↦ inr (count, summary, omega arith, ap (slice_get (session ++ summary ∷ [])) (sym len) ∙ slice_get_last session summary, omega (arith, high))
+    | inr low ↦ elim m.reached [
+      | inl none ↦ inl (omega (arith, none, low))
+      | inr r ↦ inr (r.0, r.1, omega (arith, r.2), slice_get_kept session summary r.1 r.0 r.3, omega (arith, r.4, low))
+    ]
   ];
-  reached = inr (count, summary, omega arith, ap (slice_get (session ++ summary ∷ [])) (sym len) ∙ slice_get_last session summary, refl);
 }
 
 -- the mark of more operations is not lower

@@ -3,7 +3,7 @@ use Rattle.std.proofs.Common.{rules, ◌≡◌, ◌≢◌, ◌<◌, ◌≤◌, �
 use native.Mathlib.Numerals.{unary_clauses}
 use Rattle.std.specs.List.Sorted.{IsNonDecreasingBy}
 use Rattle.std.proofs.Math.Nat.{eq-or-lt_of_le}
-use Rattle.std.proofs.lemmas.Bool.{cases_eq, cases_lt, cases_order}
+use Rattle.std.proofs.lemmas.Bool.{cases_lt, cases_order}
 use Rattle.std.proofs.lemmas.Bool.Decides.{eqb_tells}
 use Rattle.cops_types.specs.declared.op.OpName.{OpName}
 use Rattle.cops_types.specs.Histories.{Sessions, PutsVersion}
@@ -13,6 +13,7 @@ use Rattle.cops_audit.specs.Tables.{IsPutTable, IsVersionTable, Rises, VersionsN
 use Rattle.cops_audit.proofs.Acyclic.{one_version}
 use Rattle.cops_audit.specs.Summaries.{StandsAt}
 use Rattle.cops_audit.proofs.Collect.{get_or-default}
+use Rattle.cops_audit.proofs.Differing.{name_cases}
 use Rattle.cops_audit.proofs.Emptiness.{at_index}
 use Rattle.cops_audit.proofs.Unique.{stands}
 
@@ -41,29 +42,19 @@ put_at h table t k d inside = (t.members (get_or table k d)).0 (k, inside, get_o
 -- where two places have one version, each put of that version is doubled
 doubled_at : (h : Sessions) (table : List VersionedPut) → IsPutTable h table → (name : OpName) (v : ℕ) → PutsVersion h name v → (a b : ℕ) (d : VersionedPut) → a < b → b < length table
     → (get_or table a d).version ≡ v → (get_or table b d).version ≡ v → IsDoubled h name
-doubled_at h table t name v put a b d less inside va vb =
-    let at = place_of_put h table t name v put in
-    let name_at : (k : ℕ) → k ≡ at.0 → (get_or table k d).name ≡ name = λ k e. ap (λ (q : VersionedPut). q.name) (ap (λ j. get_or table j d) e ∙ at.2 d) in
-    elim (cases_eq a at.0) [
-      | inl same ↦ record {
-        version = v;
-        put = put;
-        other = (get_or table b d).name;
-        other_put = subst (PutsVersion h (get_or table b d).name) vb (put_at h table t b d inside);
-        differs = λ e. t.once a b d less inside (name_at a same ∙ sym e);
-      }
-      | inr other ↦ record {
-        version = v;
-        put = put;
-        other = (get_or table a d).name;
-        other_put = subst (PutsVersion h (get_or table a d).name) va (put_at h table t a d (omega (arith, less, inside)));
-        differs = λ e. other (one_place (get_or table a d).name name a at.0 (omega (arith, less, inside)) at.1 refl (name_at at.0 refl) e);
-      }
-    ]
+doubled_at h table t name v put a b d less inside va vb = elim (name_cases (get_or table a d).name name) [
+  | inl same ↦ doubled b inside vb (λ e. t.once a b d less inside (same ∙ sym e))
+  | inr other ↦ doubled a (omega (arith, less, inside)) va other
+]
   where
-    -- a name is at one place only
-    one_place : (m n : OpName) (i j : ℕ) → i < length table → j < length table → (get_or table i d).name ≡ m → (get_or table j d).name ≡ n → m ≡ n → i ≡ j
-    one_place m n i j in_i in_j at_i at_j same = search rules
+    doubled : (k : ℕ) → k < length table → (get_or table k d).version ≡ v → (get_or table k d).name ≢ name → IsDoubled h name
+    doubled k in_k own differs = record {
+      version = v;
+      put = put;
+      other = (get_or table k d).name;
+      other_put = subst (PutsVersion h (get_or table k d).name) own (put_at h table t k d in_k);
+      differs = differs;
+    }
 
 -- two neighbouring places with one version, in either order
 pub doubled_by_neighbour : (h : Sessions) (table : List VersionedPut) → IsPutTable h table → (name : OpName) (v : ℕ) → PutsVersion h name v → (k place : ℕ) → k < length table → place < length table

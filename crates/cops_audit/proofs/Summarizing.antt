@@ -13,7 +13,7 @@ use Rattle.cops_audit.specs.Tables.{IsVersionTable}
 use Rattle.cops_audit.specs.Summaries.{above, AreSummarized, IsMark, IsSummarized, IsSeen, IsSessionSummarized, summary_at}
 use Rattle.cops_audit.proofs.Listing.{in_lists, named_client, named_index, slice_get_there}
 use Rattle.cops_audit.proofs.Places.{inside_table}
-use Rattle.cops_audit.proofs.Marks.{mark_kept, mark_rises, mark_stays, slice_get_push}
+use Rattle.cops_audit.proofs.Marks.{mark_kept, mark_more, slice_get_push}
 
 -- places are below the greatest number of puts
 pub few_places : (h : Sessions) (table : List VersionedPut) → IsVersionTable h table → (name : OpName) (seen : OpPlace) → IsSeen h table name seen → above seen ≤ length table
@@ -51,10 +51,7 @@ module _ (h : Sessions) (table : List VersionedPut) (client : ℕ) (session : Li
   pub raised_summary : (m : ℕ) → m ≡ max mark (above seen) → Summarized h table client (session ++ record { seen = seen; mark = m } ∷ []) (count + 1) m
   raised_summary m is_max =
       one_summary_more h table client session count mark (record { seen = seen; mark = m }) n is
-      (elim (cases_lt mark (above seen)) [
-        | inl high ↦ subst (λ (k : ℕ). IsMark (session ++ record { seen = seen; mark = m } ∷ []) (count + 1) k) (omega (arith, is_max, high)) (mark_rises session (record { seen = seen; mark = m }) count mark n.whole n.up_to (omega (arith, high)))
-        | inr low ↦ subst (λ (k : ℕ). IsMark (session ++ record { seen = seen; mark = m } ∷ []) (count + 1) k) (omega (arith, is_max, low)) (mark_stays session (record { seen = seen; mark = m }) count mark n.whole n.up_to (omega (arith, low)))
-      ])
+      (subst (IsMark (session ++ record { seen = seen; mark = m } ∷ []) (count + 1)) (sym is_max) (mark_more session (record { seen = seen; mark = m }) count mark n.whole n.up_to))
 
 -- the summary of an operation, and the session that it is in
 pub session_of : (h : Sessions) (table : List VersionedPut) (summaries : List (List Summary)) → IsSummarized h table summaries → (name : OpName) (summary : Summary) → summary_at summaries name ≡ Some summary

@@ -5,28 +5,23 @@ use Rattle.std.specs.declared.cmp.Ordering.TheVariants.{Less, Equal, Greater}
 use Rattle.std.specs.Cmp.{nat_cmp_is}
 use Rattle.std.proofs.lemmas.Cmp.{nat_cmp_total}
 use Rattle.std.proofs.lemmas.Bool.{cases_order, cases_lt}
+use Rattle.std.proofs.lemmas.Bool.Decides.{nat_tests}
 use Rattle.std.proofs.lemmas.List.Sorted.{answers_always, searchable_from_sorted}
 use Rattle.cops_types.specs.declared.versioned_put.VersionedPut.{VersionedPut}
 use Rattle.cops_audit.specs.Tables.{VersionsNeverFall}
 use Rattle.cops_audit.proofs.table.place_of.Goals as goal
 
 equal_reported : (a b : ℕ) → nat_cmp a b ≡ Equal → a ≡ b
-equal_reported a b e = elim (cases_order a b) [
-  | inl same ↦ same
-  | inr other ↦ absurd (elim other [ inl less ↦ let l = nat_cmp_is a b Less less in cc | inr more' ↦ let g = nat_cmp_is a b Greater more' in cc ])
-]
+equal_reported a b e = grind (arith, nat_tests)
 
 same_equal : (a b : ℕ) → a ≡ b → nat_cmp a b ≡ Equal
-same_equal a b e = sym (nat_cmp_is a b Equal e)
+same_equal a b e = grind (arith, nat_tests)
 
 pub returns-in-Ok-clause-found : goal.returns-in-Ok-clause-found
 returns-in-Ok-clause-found c = λ d. equal_reported _ _ (c.in-Ok.ensures.position (λ p. p.version) (answers_always _ _ _ (λ f a r g k. search rules)) d) ∙ c.as_u64.ensures.number
 
 not_less : (a b : ℕ) → a ≤ b → is_lt (nat_cmp b a) ≡ false
-not_less a b le = elim (cases_order b a) [
-  | inl same ↦ ap is_lt (same_equal b a same)
-  | inr other ↦ elim other [ inl less ↦ absurd (omega (arith, le, less)) | inr more' ↦ ap is_lt (sym (nat_cmp_is b a Greater more')) ]
-]
+not_less a b le = grind (arith, nat_tests)
 
 -- versions in order can be searched
 searchable : (table : List VersionedPut) (v : ℕ) → VersionsNeverFall table → IsNonDecreasingBy (λ y. ordering_index (nat_cmp y.version v)) table
