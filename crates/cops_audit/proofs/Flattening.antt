@@ -25,10 +25,7 @@ module _ (summaries session : List Summary) where
     whole = grind (arith, common_steps)
 
     pub sessions_more : map (span_of (summaries ++ session)) (spans ++ record { from = from; to = to } ∷ []) ≡ map (span_of summaries) spans ++ session ∷ []
-    sessions_more =
-        map_push (span_of (summaries ++ session)) spans (record { from = from; to = to })
-        ∙ ap (λ ss. ss ++ span_of (summaries ++ session) (record { from = from; to = to }) ∷ []) (spans_kept spans within)
-        ∙ ap (λ s. map (span_of summaries) spans ++ s ∷ []) whole
+    sessions_more = grind (arith, common_steps, spans_kept spans within, whole)
 
     pub within_more : All (IsWithin (summaries ++ session)) (spans ++ record { from = from; to = to } ∷ [])
     within_more = grind (arith, common_steps)

@@ -8,6 +8,7 @@ use Rattle.cops_types.specs.Histories.{Sessions}
 use Rattle.cops_types.specs.declared.versioned_put.VersionedPut.{VersionedPut}
 use Rattle.cops_audit.specs.Keys.{AreFirsts, AreNexts, IsFirstOn, IsNext, OnKey}
 use Rattle.cops_audit.specs.Tables.{IsVersionTable}
+use Rattle.cops_audit.proofs.Bridging.{key_at}
 use Rattle.cops_audit.proofs.Linking.{same_key, written}
 use Rattle.cops_audit.proofs.Listing.{slice_get_there}
 use Rattle.cops_audit.proofs.Places.{inside_table, put_there, stands_at}
@@ -27,11 +28,7 @@ pub record PassedTo (h : Sessions) (table : List VersionedPut) (nexts : List ℕ
 module _ (h : Sessions) (table : List VersionedPut) (t : IsVersionTable h table) (nexts : List ℕ) (are : AreNexts h table nexts) where
   -- the key of a put
   own_key : (i : ℕ) → i < length table → (key : List ℕ) × OnKey h table i key
-  own_key i inside =
-      let d : VersionedPut = record { version = 0; name = record { client = 0; index = 0 } } in
-      let at = stands_at table i d inside in
-      let put = put_there h table t.table i _ _ at in
-      (put.0, (_, _, at, (put.1, put.2)))
+  own_key i inside = key_at h table t i _ _ (stands_at table i (record { version = 0; name = record { client = 0; index = 0 } }) inside)
 
   on_inside : (q : ℕ) (key : List ℕ) → OnKey h table q key → q < length table
   on_inside q key on = inside_table table q on.0 on.1 on.2

@@ -5,12 +5,13 @@ use mathlib.Core.List.{List-discrete}
 use native.Mathlib.Decide.{dec_lt, map_dec, ℕ_discrete}
 use Rattle.std.proofs.lemmas.List.{length-map, get_or-map}
 use Rattle.std.proofs.lemmas.List.Elements.{Contains-append_left, Contains-append_right}
+use Rattle.std.proofs.lemmas.Option.{slice_get_within}
 use Rattle.cops_types.specs.declared.op.OpName.{OpName}
 use Rattle.cops_types.specs.Histories.{Sessions, IsNamed, op_at, SessionStep, SourceStep, Operation, write, read, missed}
 use Rattle.cops_types.specs.Past.{Step, Past, step, more}
 use Rattle.cops_types.specs.Convergence.{Order, Precedes}
 use Rattle.cops_audit.specs.Names.{names_of}
-use Rattle.cops_audit.proofs.Listing.{first_or_later, later}
+use Rattle.cops_audit.proofs.Listing.{first_or_later, later, slice_get_there}
 use Rattle.cops_audit.proofs.Naming.{names_listed}
 use Rattle.cops_audit.proofs.Reach.{either_dec, Linked, linked_dec, step_linked, joined}
 
@@ -48,10 +49,7 @@ session_dec h a b = map_dec (λ s. record { same_client = s.0; earlier = s.1.0; 
     (dec.and (ℕ_discrete a.client b.client) (dec.and (dec_lt a.index b.index) (named_dec h b)))
 
 pub earlier_there : (s : List Operation) (i j : ℕ) → i < j → (op : Operation) × (slice_get s j ≡ Some op) → (op : Operation) × (slice_get s i ≡ Some op)
-earlier_there [] i j less at = absurd cc
-earlier_there (x ∷ xs) zero j less at = (x, refl)
-earlier_there (x ∷ xs) (suc i) zero less at = absurd (omega (arith, less))
-earlier_there (x ∷ xs) (suc i) (suc j) less at = earlier_there xs i j (omega (arith, less)) at
+earlier_there s i j less at = slice_get_there s i (omega (arith, less, slice_get_within s j at.0 at.1))
 
 -- the first operation of a step is in the history
 pub from_there : (h : Sessions) (a b : OpName) → Step h a b → IsNamed h a

@@ -1,7 +1,8 @@
 -- The places of puts, each written at the number of its put.
 use Rattle.std.proofs.Common.{◌≡◌, ◌≢◌, ◌<◌, ◌+◌, ◌≤◌, ℕ, zero, suc, List, [], ◌∷◌, length, get_or, Some, refl, sym, ◌∙◌, ap, subst, inl, inr, arith, slice_get, slice_set}
 use Rattle.std.proofs.Math.Nat.{eq-or-lt_of_le}
-use Rattle.std.proofs.lemmas.Option.{slice_get_within}
+use Rattle.std.proofs.lemmas.Option.{slice_get_within, slice_get_read, get_or_from_slice_get}
+use Rattle.std.proofs.lemmas.List.{get_or-set_same, get_or-set_other, length-set}
 use Rattle.cops_types.specs.declared.op.OpName.{OpName}
 use Rattle.cops_types.specs.Histories.{Sessions}
 use Rattle.cops_types.specs.declared.versioned_put.VersionedPut.{VersionedPut}
@@ -12,16 +13,12 @@ use Rattle.cops_audit.proofs.Places.{same_put_at, stands_at}
 -- the elements of a list in which one was written
 module _ {A : Type 0} where
   set_at : (xs : List A) (i : ℕ) (x : A) → i < length xs → slice_get (slice_set xs i x) i ≡ Some x
-  set_at [] i x inside = absurd (omega (arith, inside))
-  set_at (y ∷ ys) zero x inside = refl
-  set_at (y ∷ ys) (suc i) x inside = set_at ys i x (omega (arith, inside))
+  set_at xs i x inside = slice_get_read (slice_set xs i x) (length xs) i x (sym (length-set xs i x)) inside (sym (get_or-set_same xs i x x inside))
 
-  set_elsewhere : (xs : List A) (i j : ℕ) (x : A) → j ≢ i → slice_get (slice_set xs i x) j ≡ slice_get xs j
-  set_elsewhere [] i j x differs = refl
-  set_elsewhere (y ∷ ys) zero zero x differs = absurd (differs refl)
-  set_elsewhere (y ∷ ys) zero (suc j) x differs = refl
-  set_elsewhere (y ∷ ys) (suc i) zero x differs = refl
-  set_elsewhere (y ∷ ys) (suc i) (suc j) x differs = set_elsewhere ys i j x (λ e. differs (ap suc e))
+  set_elsewhere : (xs : List A) (i j : ℕ) (x y : A) → j ≢ i → slice_get xs j ≡ Some y → slice_get (slice_set xs i x) j ≡ Some y
+  set_elsewhere xs i j x y differs e =
+      slice_get_read (slice_set xs i x) (length xs) j y (sym (length-set xs i x)) (slice_get_within xs j y e)
+      (sym (get_or-set_other xs i j x y differs ∙ get_or_from_slice_get xs j y y e))
 
 -- each of the table's places below the end is at the number of its put, where the put has a number
 abbrev pub ReportPlacesBelow : ℕ → List OpName → List VersionedPut → List ℕ → Type 0
@@ -50,7 +47,7 @@ module _ (h : Sessions) (puts : List OpName) (table : List VersionedPut) (t : Is
         let apart : n ≢ number = λ e.
         let names : put ≡ (get_or table k d).name = cc in
         t.table.once j k d before inside (sym is_q ∙ names) in
-        set_elsewhere places number n k apart ∙ reported j n put version before stands named
+        set_elsewhere places number n k j apart (reported j n put version before stands named)
   ]
 
   pub all_more : AllNumberedBelow k puts table → AllNumberedBelow (k + 1) puts table

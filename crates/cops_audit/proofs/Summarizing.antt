@@ -3,6 +3,7 @@ use Rattle.std.proofs.Common.{rules, ◌≡◌, ◌<◌, ◌≤◌, ◌+◌, ◌
 use Rattle.std.proofs.lemmas.Bool.{cases_lt}
 use Rattle.std.proofs.lemmas.List.{get_or_append_left, get_or-append_right}
 use Rattle.std.proofs.lemmas.Option.{slice_get_within}
+use Rattle.std.proofs.lemmas.Grind.{common_steps}
 use Rattle.cops_types.specs.declared.op.OpName.{OpName}
 use Rattle.cops_types.specs.Histories.{Sessions, IsNamed}
 use Rattle.cops_types.specs.declared.versioned_put.VersionedPut.{VersionedPut}
@@ -87,8 +88,4 @@ summarized_joined h table first mid end low high a b = record {
         (subst (λ (n : ℕ). IsSessionSummarized h table n (get_or high j [])) client (b.sessions j (omega (arith, less, le, length-append low high))))
 
 pub summarized_one : (h : Sessions) (table : List VersionedPut) (client : ℕ) (session : List Summary) → IsSessionSummarized h table client session → AreSummarized h table client (client + 1) (session ∷ [])
-summarized_one h table client session summarized = record { clients = omega arith; sessions = at }
-  where
-    at : (k : ℕ) → k < length (session ∷ []) → IsSessionSummarized h table (client + k) (get_or (session ∷ []) k [])
-    at zero less = subst (λ (n : ℕ). IsSessionSummarized h table n session) (let e : client ≡ client + 0 = omega arith in e) summarized
-    at (suc k) less = absurd (omega (arith, less))
+summarized_one h table client session summarized = grind (arith, common_steps)
