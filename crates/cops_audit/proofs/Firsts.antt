@@ -1,5 +1,9 @@
 -- Where an operation makes a put faulty, there is a first one that does; where some put is newer, there is a newest one.
-use Rattle.std.proofs.Common.{◌≡◌, ◌<◌, ◌≤◌, ◌+◌, ℕ, zero, suc, List, [], ◌∷◌, Option, Some, ap, arith, slice_get, slice_index_or}
+use Rattle.std.proofs.Common.{◌≡◌, ◌<◌, ◌≤◌, ◌+◌, ℕ, zero, suc, List, [], ◌∷◌, Option, Some, ap, arith, slice_get, slice_index_or, get_or}
+use Rattle.std.specs.Prelude.{sum_by}
+use Rattle.std.proofs.lemmas.List.Sums.{get_or-le-sum_by}
+use Rattle.std.proofs.lemmas.Option.{slice_get_within, get_or_from_slice_get}
+use Rattle.cops_audit.proofs.Listing.{named_client}
 use Rattle.cops_types.specs.declared.op.OpName.{OpName}
 use Rattle.cops_types.specs.Histories.{Sessions, PutsVersion, Operation, write, read, missed}
 use Rattle.cops_types.specs.Faults.{IsNotBelow, IsNewer}
@@ -26,31 +30,19 @@ version_of (write k v w) = w
 version_of (read k v w) = w
 version_of (missed k) = 0
 
-session_bound : List Operation → ℕ
-session_bound [] = 0
-session_bound (op ∷ ops) = version_of op + session_bound ops
-
 -- no version in the history is above this
 bound : Sessions → ℕ
-bound [] = 0
-bound (s ∷ ss) = session_bound s + bound ss
-
-session_bounds : (s : List Operation) (i : ℕ) (k : List ℕ) (x : Option (List ℕ)) (w : ℕ) → slice_get s i ≡ Some (write k x w) → w ≤ session_bound s
-unfolding session_bound version_of
-session_bounds [] i k x w e = absurd cc
-session_bounds (op ∷ ops) zero k x w e =
-    let same : version_of op ≡ w = ap version_of (let e' : op ≡ write k x w = cc in e') in
-    omega (arith, same)
-session_bounds (op ∷ ops) (suc i) k x w e = omega (arith, session_bounds ops i k x w e)
-
-bounds : (ss : Sessions) (c i : ℕ) (k : List ℕ) (x : Option (List ℕ)) (w : ℕ) → slice_get (slice_index_or ss c []) i ≡ Some (write k x w) → w ≤ bound ss
-unfolding bound
-bounds [] c i k x w e = absurd cc
-bounds (s ∷ ss) zero i k x w e = omega (arith, session_bounds s i k x w e)
-bounds (s ∷ ss) (suc c) i k x w e = omega (arith, bounds ss c i k x w e)
+bound h = sum_by (λ ops. sum_by version_of ops) h
 
 version_bound : (h : Sessions) (p : OpName) (w : ℕ) → PutsVersion h p w → w ≤ bound h
-version_bound h p w put = bounds h p.client p.index put.0 put.1 w put.2
+unfolding bound version_of
+version_bound h p w put =
+    let op = write put.0 put.1 w in
+    let session = slice_index_or h p.client [] in
+    let same : version_of (get_or session p.index op) ≡ w = ap version_of (get_or_from_slice_get session p.index op op put.2) in
+    let own = get_or-le-sum_by version_of session p.index op (slice_get_within session p.index op put.2) in
+    let all = get_or-le-sum_by (λ (ops : List Operation). sum_by version_of ops) h p.client [] (named_client h p (op, put.2)) in
+    omega (arith, same, own, all)
 
 -- by induction on how far the version is below the bound
 none_above : (h : Sessions) → NoneStale h → (room : ℕ) (name newer : OpName) (w : ℕ) → bound h < w + room → ¬ IsNewer h name newer w

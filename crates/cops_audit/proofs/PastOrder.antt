@@ -84,30 +84,24 @@ past_to h a b (step (inr s)) = (_, s.got)
 past_to h a b (more p (inl s)) = s.is_there
 past_to h a b (more p (inr s)) = (_, s.got)
 
--- the pairs of a list that are a past
-pasts_among : (h : Sessions) (ps : Order) → (order : Order) × ((a b : OpName) → (Precedes order a b → Past h a b) × (Past h a b → Contains ps (a, b) → Precedes order a b))
-pasts_among h [] = ([], λ a b. (λ at. absurd (omega (arith, at.1)), λ p at. absurd (omega (arith, at.1))))
-pasts_among h (q ∷ qs) =
-    let rest = pasts_among h qs in
-    elim (past_dec h q.0 q.1) [
-      | yes past ↦ (
-        q ∷ rest.0,
-        λ a b. (
-          (λ at. elim (first_or_later q rest.0 (a, b) at) [ inl same ↦ subst (λ (p : OpName × OpName). Past h p.0 p.1) same past | inr there ↦ (rest.1 a b).0 there ]),
-          (λ p at. elim (first_or_later q qs (a, b) at) [
-            | inl same ↦ (zero, omega arith, same)
-            | inr there ↦ later q rest.0 (a, b) ((rest.1 a b).1 p there)
-          ]),
+-- the elements of a list with a property that is decided
+those : {A : Type 0} (P : A → Type 0) → ((x : A) → Dec (P x)) → (xs : List A) → (ys : List A) × ((x : A) → (Contains ys x → P x) × (P x → Contains xs x → Contains ys x))
+those P decide [] = ([], λ x. (λ at. absurd (omega (arith, at.1)), λ p at. absurd (omega (arith, at.1))))
+those P decide (y ∷ xs) =
+    let rest = those P decide xs in
+    elim (decide y) [
+      | yes holds ↦ (
+        y ∷ rest.0,
+        λ x. (
+          (λ at. elim (first_or_later y rest.0 x at) [ inl same ↦ subst P same holds | inr there ↦ (rest.1 x).0 there ]),
+          (λ p at. elim (first_or_later y xs x at) [ inl same ↦ (zero, omega arith, same) | inr there ↦ later y rest.0 x ((rest.1 x).1 p there) ]),
         ),
       )
-      | no none ↦ (
+      | no fails ↦ (
         rest.0,
-        λ a b. (
-          (rest.1 a b).0,
-          (λ p at. elim (first_or_later q qs (a, b) at) [
-            | inl same ↦ absurd (none (subst (λ (r : OpName × OpName). Past h r.0 r.1) (sym same) p))
-            | inr there ↦ (rest.1 a b).1 p there
-          ]),
+        λ x. (
+          (rest.1 x).0,
+          (λ p at. elim (first_or_later y xs x at) [ inl same ↦ absurd (fails (subst P (sym same) p)) | inr there ↦ (rest.1 x).1 p there ]),
         ),
       )
     ]
@@ -126,17 +120,19 @@ has_pair (x ∷ as') bs a b (zero, small, same) there =
 has_pair (x ∷ as') bs a b (suc k, small, same) there =
     Contains-append_right (map (λ y. (x, y)) bs) (pairs as' bs) (a, b) (has_pair as' bs a b (k, omega (arith, small), same) there)
 
+pasts : (h : Sessions) → (order : Order) × ((x : OpName × OpName) → (Contains order x → Past h x.0 x.1) × (Past h x.0 x.1 → Contains (pairs (names_of h) (names_of h)) x → Contains order x))
+pasts h = those (λ (x : OpName × OpName). Past h x.0 x.1) (λ x. past_dec h x.0 x.1) (pairs (names_of h) (names_of h))
+
 -- the past as a finite set of pairs
 pub past_order : Sessions → Order
-past_order h = (pasts_among h (pairs (names_of h) (names_of h))).0
+past_order h = (pasts h).0
 
 pub precedes_past : (h : Sessions) (a b : OpName) → Precedes (past_order h) a b → Past h a b
 unfolding past_order
-precedes_past h a b at = ((pasts_among h (pairs (names_of h) (names_of h))).1 a b).0 at
+precedes_past h a b at = ((pasts h).1 (a, b)).0 at
 
 pub past_precedes : (h : Sessions) (a b : OpName) → Past h a b → Precedes (past_order h) a b
 unfolding past_order
 past_precedes h a b p =
     let named = (names_listed h).members in
-    ((pasts_among h (pairs (names_of h) (names_of h))).1 a b).1 p
-    (has_pair (names_of h) (names_of h) a b ((named a).1 (past_from h a p)) ((named b).1 (past_to h a b p)))
+    ((pasts h).1 (a, b)).1 p (has_pair (names_of h) (names_of h) a b ((named a).1 (past_from h a p)) ((named b).1 (past_to h a b p)))
