@@ -1,5 +1,6 @@
 -- Where each put's version is above all versions that its session put or got before, steps have no cycle.
 use Rattle.std.proofs.Common.{rules, ◌≡◌, ◌<◌, ◌≤◌, ◌⊎◌, ℕ, refl, sym, ◌∙◌, ap, inl, inr, arith}
+use Rattle.std.proofs.Math.Nat.{eq-or-lt_of_le}
 use Rattle.cops_types.specs.declared.op.OpName.{OpName}
 use Rattle.cops_types.specs.Histories.{Sessions, PutsVersion, SourceStep}
 use Rattle.cops_types.specs.Operations.{GetsVersion}
@@ -99,12 +100,10 @@ module _ (h : Sessions) (rise : VersionsRise h) where
   past_below p q v w first second past = by_cases (precise past)
     where
       same_put : (r : OpName) (u : ℕ) → PutsVersion h r u → AtOrBefore p r → v ≤ u
-      same_put r u put at =
-          let not : ¬ (u < v) = λ gap.
-          let not_less : ¬ (p.index < r.index) = λ before. omega (arith, put_below p r v u first put at.0 before) in
-          let not_same : ¬ (p.index ≡ r.index) = λ e. omega (arith, one_version h p r v u first put (same_name p r at.0 e)) in
-          omega (arith, not_less, not_same, at.1) in
-          omega (arith, not)
+      same_put r u put at = elim (eq-or-lt_of_le at.1) [
+        | inl same ↦ omega (arith, one_version h p r v u first put (same_name p r at.0 same))
+        | inr before ↦ omega (arith, put_below p r v u first put at.0 before)
+      ]
 
       by_cases : Precise p q → v < w
       by_cases (inl e) = put_below p q v w first second e.0 e.1

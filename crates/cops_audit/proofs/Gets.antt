@@ -8,7 +8,7 @@ use Rattle.cops_types.specs.Faults.{HasNoSource}
 use Rattle.cops_types.specs.declared.versioned_put.VersionedPut.{VersionedPut}
 use Rattle.cops_audit.specs.Tables.{IsVersionTable}
 use Rattle.cops_audit.specs.Summaries.{Divides, StandsAt}
-use Rattle.cops_audit.proofs.Places.{inside_table, place_for, place_of_put, same_put_at, version_at, version_rises}
+use Rattle.cops_audit.proofs.Places.{place_rises, inside_table, place_for, place_of_put, same_put_at, version_at, version_rises}
 
 -- a get has one version
 pub one_get_version : (h : Sessions) (got : OpName) (v w : ℕ) → GetsVersion h got v → GetsVersion h got w → v ≡ w
@@ -42,10 +42,9 @@ pub divides_at : (h : Sessions) (table : List VersionedPut) → IsVersionTable h
 divides_at h table t place put version at = record {
   inside = let l : place < length table = inside_table table place put version at in omega (arith, l);
   before = λ k q own at_k less. version_rises table t.rising k place q put own version at_k at less;
-  from = λ k q own at_k le. elim (eq-or-lt_of_le le) [
-    | inl same ↦ let e = (same_put_at table t.rising place put q version own at (subst (λ (j : ℕ). StandsAt table j q own) (sym same) at_k)).1 in omega (arith, e)
-    | inr less ↦ let l : version < own = version_rises table t.rising place k put q version own at at_k less in omega (arith, l)
-  ];
+  from = λ k q own at_k le.
+      let not : ¬ (own < version) = λ less. let l : k < place = place_rises table t.rising k place q put own version at_k at less in omega (arith, l, le) in
+      omega (arith, not);
 }
 
 -- the place that a search for a version gives divides the puts by it

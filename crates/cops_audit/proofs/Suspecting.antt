@@ -77,9 +77,6 @@ module _ (h : Sessions) (table : List VersionedPut) (t : IsVersionTable h table)
     }
 
   module _ (op : OpName) (place : ℕ) (got : IsSeen h table op (seen.Got place)) where
-    key : List ℕ
-    key = got.4.key
-
     -- the version of the source
     version_is : got.4.version ≡ got.1
     version_is = one_get_version h op got.4.version got.1 (got.4.key, got.4.content, got.4.got) got.3
