@@ -1,5 +1,5 @@
 -- Epoch arrays: numbers that count only in the epoch in which they were written.
-use Rattle.std.proofs.Common.{◌≡◌, ◌<◌, ◌+◌, ◌++◌, ◌∙◌, ℕ, zero, suc, List, [], ◌∷◌, length, map, replicate, Bool, cond, true, false, eqb, refl, sym, ap, arith, All, append_assoc, length-append, slice_set}
+use Rattle.std.proofs.Common.{◌≡◌, ◌<◌, ◌+◌, ◌++◌, ◌∙◌, ℕ, zero, suc, List, [], ◌∷◌, length, map, replicate, cond, eqb, refl, sym, ap, arith, All, append_assoc, length-append, slice_set}
 use Rattle.std.proofs.lemmas.Bool.{eqb-true, eq-eqb, false_from_ne_true}
 use Rattle.std.proofs.lemmas.Grind.{common_steps}
 use Rattle.std.proofs.lemmas.List.{length-map, length-replicate, map-append, map-set, replicate-append-replicate, set-append_left}

@@ -1,7 +1,5 @@
 -- Causal summaries, session by session in one list.
-use Rattle.std.proofs.Common.{◌≡◌, ◌-◌, ℕ, suc, List, [], ◌∷◌, ◌++◌, length, map, All, length-append, length-drop, take_all, refl, ◌∙◌, ap, arith, drop, take}
-use Rattle.std.proofs.lemmas.List.{drop-append-le, drop_at, map_push, take-append-le}
-use Rattle.std.proofs.lemmas.List.Elements.{All-push}
+use Rattle.std.proofs.Common.{◌≡◌, ℕ, suc, List, [], ◌∷◌, ◌++◌, length, map, All, refl, arith}
 use Rattle.std.proofs.lemmas.Grind.{common_steps}
 use Rattle.cops_audit.specs.declared.flat.Span.{Span}
 use Rattle.cops_audit.specs.declared.summaries.Summary.{Summary}

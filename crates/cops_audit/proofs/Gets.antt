@@ -1,6 +1,5 @@
 -- Gets and their sources in a table of puts in order of versions.
-use Rattle.std.proofs.Common.{rules, ◌≡◌, ◌<◌, ◌≤◌, ℕ, List, get_or, length, sym, ap, subst, inl, inr, arith}
-use Rattle.std.proofs.Math.Nat.{eq-or-lt_of_le}
+use Rattle.std.proofs.Common.{rules, ◌≡◌, ◌<◌, ◌≤◌, ℕ, List, get_or, length, ap, subst, arith}
 use Rattle.cops_types.specs.declared.op.OpName.{OpName}
 use Rattle.cops_types.specs.Histories.{Sessions, PutsVersion, SourceStep}
 use Rattle.cops_types.specs.Operations.{GetsVersion}
@@ -8,7 +7,7 @@ use Rattle.cops_types.specs.Faults.{HasNoSource}
 use Rattle.cops_types.specs.declared.versioned_put.VersionedPut.{VersionedPut}
 use Rattle.cops_audit.specs.Tables.{IsVersionTable}
 use Rattle.cops_audit.specs.Summaries.{Divides, StandsAt}
-use Rattle.cops_audit.proofs.Places.{place_rises, inside_table, place_for, place_of_put, same_put_at, version_at, version_rises}
+use Rattle.cops_audit.proofs.Places.{place_rises, inside_table, place_for, place_of_put, version_at, version_rises}
 
 -- a get has one version
 pub one_get_version : (h : Sessions) (got : OpName) (v w : ℕ) → GetsVersion h got v → GetsVersion h got w → v ≡ w

@@ -11,7 +11,7 @@ use Rattle.cops_audit.specs.Tables.{IsVersionTable}
 use Rattle.cops_audit.proofs.Bridging.{key_at}
 use Rattle.cops_audit.proofs.Linking.{same_key, written}
 use Rattle.cops_audit.proofs.Listing.{slice_get_there}
-use Rattle.cops_audit.proofs.Places.{inside_table, put_there, stands_at}
+use Rattle.cops_audit.proofs.Places.{inside_table, stands_at}
 
 -- either no place before this one was handed on to it, or what was is the first place on its key
 abbrev pub Passed : Sessions → List VersionedPut → List ℕ → List ℕ → ℕ → ℕ → Type 0

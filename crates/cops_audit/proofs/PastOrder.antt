@@ -1,5 +1,5 @@
 -- The past of an operation is decided, and so it is a finite set of pairs.
-use Rattle.std.proofs.Common.{◌≡◌, ◌≢◌, ◌<◌, ◌⊎◌, ℕ, zero, suc, List, [], ◌∷◌, ◌++◌, Option, Some, None, refl, sym, ◌∙◌, ap, subst, inl, inr, arith, slice_get, slice_index_or, Contains, map}
+use Rattle.std.proofs.Common.{◌≡◌, ◌<◌, ℕ, zero, suc, List, [], ◌∷◌, ◌++◌, Option, Some, None, refl, sym, ◌∙◌, ap, subst, inl, inr, arith, slice_get, slice_index_or, Contains, map}
 use mathlib.Core.Logic.Dec as dec
 use mathlib.Core.List.{List-discrete}
 use native.Mathlib.Decide.{dec_lt, map_dec, ℕ_discrete}
