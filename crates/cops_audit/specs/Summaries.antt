@@ -1,5 +1,5 @@
 -- Causal summaries: what each operation did, by places in the table of puts in order of versions.
-use Rattle.std.specs.Prelude.{◌≡◌, ◌<◌, ◌≤◌, ◌+◌, ◌⊎◌, ℕ, List, [], length, slice_index_or, slice_get, slice_range, Option, Some}
+use Rattle.std.specs.Prelude.{◌≡◌, ◌<◌, ◌≤◌, ◌+◌, ◌++◌, ◌⊎◌, ℕ, List, [], length, slice_index_or, slice_get, slice_range, Option, Some}
 use Rattle.cops_types.specs.declared.op.OpName.{OpName}
 use Rattle.cops_types.specs.Histories.{Sessions, IsMissed, PutsVersion, SourceStep}
 use Rattle.cops_types.specs.Operations.{GetsVersion}
@@ -52,6 +52,10 @@ pub record IsSessionSummarized (h : Sessions) (table : List VersionedPut) (clien
   pub whole : length session ≡ length (slice_index_or h client [])
   pub seen : (i : ℕ) (summary : Summary) → slice_get session i ≡ Some summary → IsSeen h table (record { client = client; index = i }) summary.seen
   pub marks : (i : ℕ) (summary : Summary) → slice_get session i ≡ Some summary → IsMark session (i + 1) summary.mark
+
+-- the summaries of a session were added at the end
+abbrev pub AddsSession : Sessions → List VersionedPut → ℕ → List Summary → List Summary → Type 0
+AddsSession h table client old new = (session : List Summary) × IsSessionSummarized h table client session × (new ≡ old ++ session)
 
 -- the summaries of the sessions of the clients from one up to another
 pub record AreSummarized (h : Sessions) (table : List VersionedPut) (first end : ℕ) (summaries : List (List Summary)) : Type 0 where

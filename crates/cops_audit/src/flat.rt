@@ -1,7 +1,6 @@
-ghost use Rattle.std.specs.Prelude.{◌≡◌, ◌≤◌, ◌+◌, ◌++◌, List, length, slice_index_or, [], vec_len, vec_capacity};
+ghost use Rattle.std.specs.Prelude.{◌≡◌, ◌≤◌, ◌+◌, length, slice_index_or, [], vec_len, vec_capacity};
 ghost use Rattle.cops_audit.specs.Analyses.{IsPutIndex};
-ghost use Rattle.cops_audit.specs.Summaries.{IsSessionSummarized};
-ghost use Rattle.cops_audit.specs.declared.summaries.Summary.{Summary};
+ghost use Rattle.cops_audit.specs.Summaries.{AddsSession};
 
 use crate::analysis::PutIndex;
 use crate::summaries::{Summaries, Summary, SummaryPart, see_op};
@@ -39,8 +38,7 @@ impl Model for FlatSummaries {
 fn push_session(summaries: &mut Vec<Summary>, index: &PutIndex, client: u16)
     requires index { IsPutIndex index.now }
     requires room { vec_len summaries.old + length (slice_index_or index.now.history.now.sessions client []) ≤ vec_capacity summaries.old }
-    ensures summaries { (session : List Summary) × IsSessionSummarized index.now.history.now.sessions index.now.table.now client session
-        × (summaries.new.items ≡ summaries.old.items ++ session) }
+    ensures summaries { AddsSession index.now.history.now.sessions index.now.table.now client summaries.old.items summaries.new.items }
     ensures capacity { vec_capacity summaries.new ≡ vec_capacity summaries.old }
 {
     let mut mark = 0;
