@@ -2,6 +2,7 @@ pub mod Analyses
 pub mod Keys
 pub mod KeyIndexes
 pub mod Names
+pub mod Ordered
 pub mod Summarized
 pub mod Summaries
 pub mod Placing

@@ -6,8 +6,8 @@
 //! The definitions are in cops_types. The layers above use the verdict, that there is only one, that acceptance is
 //! convergence by the order of versions, and the past of an operation. A parallel judge uses `Puts` and `Tables` of a
 //! history, which find the faults among some of the operations and give the verdict from those of all. Reports use what
-//! single operations put and got. `Buckets` and `place_near` find a put by its version faster than `place_of`, and tests
-//! compare them.
+//! single operations put and got, and the verdict with the puts in order of versions. `Buckets` and `place_near` find a
+//! put by its version faster than `place_of`, and tests compare them.
 #![tactic(auto)]
 
 mod analysis;
@@ -45,7 +45,7 @@ pub use fault::Fault;
 pub use feed_fault::FeedFault;
 pub use hints::{Buckets, place_near};
 pub use judged::Judged;
-pub use judging::judge;
+pub use judging::{judge, judge_in_order};
 pub use laws::{
     accepted_exactly_where_convergent, clean_exactly_where_accepted, one_verdict,
     refused_stays_refused, verdict_on_convergence,
@@ -53,6 +53,6 @@ pub use laws::{
 pub use online::Online;
 pub use puts::Puts;
 pub use search::past;
-pub use table::{place_of, puts_by_version};
+pub use table::{first_from, place_of, puts_by_version};
 pub use tables::Tables;
-pub use verdict::{Faults, NotAbove, SoFar, Stale, Verdict};
+pub use verdict::{Faults, NotAbove, OrderedVerdict, SoFar, Stale, Verdict};

@@ -1,7 +1,7 @@
 use crate::feed_fault::FeedFault;
 use crate::flat::FlatSummaries;
 use crate::judged::Judged;
-use crate::judging::judge;
+use crate::judging::judge_in_order;
 use crate::room::Scratch;
 use crate::verdict::{SoFar, Verdict};
 use cops_types::{History, Memory, Op, OpView};
@@ -155,7 +155,7 @@ impl Online {
             summaries: _summaries,
         } = self;
         history.forget_candidates();
-        let verdict = judge(alloc, &history)?;
-        Ok(Judged::new(history, verdict))
+        let ordered = judge_in_order(alloc, &history)?;
+        Ok(Judged::new(history, ordered))
     }
 }

@@ -6,7 +6,7 @@ use crate::climbing::not_above;
 use crate::names::Names;
 use crate::sources::{Sources, find_sources, without_source};
 use crate::table::{doubled, is_rising, puts_by_version};
-use crate::verdict::{Faults, NotAbove, Verdict};
+use crate::verdict::{Faults, NotAbove, OrderedVerdict, Verdict};
 use cops_types::{History, OpName, VersionedPut};
 use std::alloc::{AllocError, Global};
 use std::marker::Model;
@@ -53,6 +53,7 @@ impl<'a> Puts<'a> {
     ghost use Rattle.cops_types.specs.Verdicts.{AllAbove, AllHaveSources};
     ghost use Rattle.cops_types.specs.VersionOrder.{IsDoubled};
     ghost use Rattle.cops_audit.specs.Names.{ListsAmong, ListsNotAbove};
+    ghost use Rattle.cops_audit.specs.Ordered.{IsOrderedVerdict};
     ghost use Rattle.cops_audit.specs.Tables.{Repeats, Rises};
     ghost use Rattle.cops_audit.specs.Verdicts.{IsVerdict};
 
@@ -169,5 +170,16 @@ impl<'a> Puts<'a> {
             return Some(Verdict::Refused(Faults::NotAbove(not_above)));
         }
         None
+    }
+
+    /// A verdict on the history, with the puts.
+    pub fn with_verdict(self, verdict: Verdict) -> OrderedVerdict
+        requires { IsVerdict self.sessions verdict }
+        ensures { IsOrderedVerdict self.entry.sessions result }
+    {
+        OrderedVerdict {
+            verdict,
+            puts: self.table,
+        }
     }
 }

@@ -7,7 +7,7 @@ use crate::put_places::put_places;
 use crate::puts::Puts;
 use crate::stale::stale_among;
 use crate::table::put_names;
-use crate::verdict::{Faults, Stale, Verdict};
+use crate::verdict::{Faults, OrderedVerdict, Stale, Verdict};
 use cops_types::{History, Memory, OpName, VersionedPut};
 use std::alloc::{AllocError, Global};
 use std::marker::Model;
@@ -41,7 +41,7 @@ impl<'a> Tables<'a> {
     ghost use Rattle.cops_types.specs.Faults.{IsBefore};
     ghost use Rattle.cops_types.specs.Verdicts.{AllAbove, AllHaveSources};
     ghost use Rattle.cops_audit.specs.Tables.{Rises};
-    ghost use Rattle.cops_audit.specs.Verdicts.{IsVerdict};
+    ghost use Rattle.cops_audit.specs.Ordered.{IsOrderedVerdict};
     ghost use Rattle.cops_audit.specs.Names.{ListsStale};
 
     /// The tables of puts. The only error is `AllocError`, where memory runs out.
@@ -122,17 +122,17 @@ impl<'a> Tables<'a> {
         stale_among(alloc, &analysis, Names::range(self.history, start, len))
     }
 
-    /// The verdict where the classes before the stale gets are empty: the stale gets among all names, or the puts in
-    /// order of versions. The only error is `Memory`, where memory runs out.
-    pub fn verdict(self, alloc: Global, stale: Vec<Stale>) -> Result<Verdict, Memory>
+    /// The verdict where the classes before the stale gets are empty, with the puts in order of versions: the stale gets
+    /// among all names, or the puts' names. The only error is `Memory`, where memory runs out.
+    pub fn verdict(self, alloc: Global, stale: Vec<Stale>) -> Result<OrderedVerdict, Memory>
         requires sources { AllHaveSources self.sessions }
         requires above { AllAbove self.sessions }
         requires stale { ListsStale self.sessions self.names stale.items }
-        ensures { IfOk result (IsVerdict self.entry.sessions) }
+        ensures { IfOk result (IsOrderedVerdict self.entry.sessions) }
     {
         // What only the search needs is freed before the puts are listed.
         let Tables {
-            table,
+            table: puts,
             summaries,
             keys,
             ..
@@ -140,9 +140,11 @@ impl<'a> Tables<'a> {
         drop(summaries);
         drop(keys);
         if !stale.is_empty() {
-            return Ok(Verdict::Refused(Faults::Stale(stale)));
+            let verdict = Verdict::Refused(Faults::Stale(stale));
+            return Ok(OrderedVerdict { verdict, puts });
         }
-        let puts = put_names(alloc, table.as_slice())?;
-        Ok(Verdict::Accepted(puts))
+        let names = put_names(alloc, puts.as_slice())?;
+        let verdict = Verdict::Accepted(names);
+        Ok(OrderedVerdict { verdict, puts })
     }
 }

@@ -1,4 +1,4 @@
-use cops_types::OpName;
+use cops_types::{OpName, VersionedPut};
 
 /// A put that has an earlier put or get of its session whose version is not below its own, and the first such
 /// operation.
@@ -41,4 +41,11 @@ pub enum Verdict {
     /// The puts, in order of versions.
     Accepted(Vec<OpName>),
     Refused(Faults),
+}
+
+/// The verdict on a history, with its puts in order of versions.
+#[derive(Debug, Drop, PartialEq, Eq)]
+pub struct OrderedVerdict {
+    pub verdict: Verdict,
+    pub puts: Vec<VersionedPut>,
 }

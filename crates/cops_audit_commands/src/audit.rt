@@ -7,7 +7,7 @@ ghost use Rattle.cops_types.specs.Counted.{failures, inner};
 ghost use Rattle.cops_trace.specs.Answer.{Agrees, AgreesInto, Says};
 ghost use Rattle.cops_trace.specs.Lines.{fault_line};
 ghost use Rattle.cops_batch.specs.Pieces.{MayHoldPiece};
-ghost use Rattle.cops_audit.specs.Verdicts.{IsVerdict};
+ghost use Rattle.cops_audit.specs.Ordered.{IsOrderedVerdict};
 ghost use Rattle.cops_trace.specs.Text.{ATrace, sessions_of};
 ghost use Rattle.cops_audit_commands.specs.Audit.{AuditSays, Writes, WritesPrefix, IsReported, answer_of};
 ghost use Rattle.cops_audit_commands.specs.Convergent.{EncodesConvergent};
@@ -15,10 +15,10 @@ ghost use Rattle.cops_audit_commands.specs.Fed.{WasFed};
 
 use crate::alone::{judged_alone, whole};
 use crate::fed::Fed;
-use cops_audit::Verdict;
-use cops_batch::{BatchFault, judge_with};
+use cops_audit::{OrderedVerdict, Verdict};
+use cops_batch::{BatchFault, judge_in_order_with};
 use cops_command::Status;
-use cops_report::report;
+use cops_report::report_by;
 use cops_trace::{SinkTaken, TraceFault, fault_line, read_into};
 use cops_types::{Counted, Gate, History, MAX_WORKERS, Memory, write_text};
 use std::alloc::Global;
@@ -88,13 +88,13 @@ pub(crate) fn answer_of(verdict: &Verdict) -> Answer
 fn report_on(
     alloc: Global,
     history: &History,
-    verdict: &Verdict,
+    ordered: &OrderedVerdict,
 ) -> Result<(Answer, Vec<u8>), Memory>
-    requires { IsVerdict history.now.sessions verdict.now }
+    requires { IsOrderedVerdict history.now.sessions ordered.now }
     ensures { (t : ATrace) → history.now.sessions ≡ sessions_of t → IfOk result (λ reported. IsReported t reported.0 reported.1.items) }
 {
-    let text = report(alloc, history, verdict)?;
-    Ok((answer_of(verdict), text))
+    let text = report_by(alloc, history, &ordered.puts, &ordered.verdict)?;
+    Ok((answer_of(&ordered.verdict), text))
 }
 
 /// The answer for what the auditor took, with its report, by `workers` workers.
@@ -112,13 +112,13 @@ fn judged<T: Threads + Wait + Sync, G: Gate>(
     ensures no_write { ¬ IsErrOf result StreamFault.WriteFailed }
 {
     let history = fed.into_online().into_history();
-    let verdict = match judge_with(rt, alloc, &history, workers, gate) {
-        Ok(verdict) => verdict,
+    let ordered = match judge_in_order_with(rt, alloc, &history, workers, gate) {
+        Ok(ordered) => ordered,
         Err(BatchFault::Memory) => return Err(StreamFault::Memory),
         Err(BatchFault::BadWorkers) => return Err(StreamFault::BadWorkers),
         Err(BatchFault::Held) => return Err(StreamFault::Held),
     };
-    match report_on(alloc, &history, &verdict) {
+    match report_on(alloc, &history, &ordered) {
         Ok(reported) => Ok(reported),
         Err(Memory) => Err(StreamFault::Memory),
     }

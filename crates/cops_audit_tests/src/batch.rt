@@ -2,7 +2,8 @@ use crate::building::*;
 use cops_audit::{Verdict, judge};
 use cops_batch::*;
 use cops_testing::{HoldsAt, Meeting};
-use cops_types::{Gate, History, Memory, OpenGate, Point};
+use cops_types::{Gate, History, Memory, OpName, OpenGate, Point, VersionedPut};
+use std::alloc::{AllocError, Global};
 use std::sync::Wait;
 use std::test::Fail;
 use std::thread::Threads;
@@ -70,6 +71,43 @@ fn workers_say_what_one_does(rt: HostRuntime) -> Result<(), Fail> {
         for entries in [&STALE_BELOW_A_DELETION[..], &SOURCELESS[..]] {
             assert!(rt; answer(&rt, &OpenGate, workers, entries)? == Ok(true));
         }
+    }
+    Ok(())
+}
+
+fn names_of(alloc: Global, puts: &[VersionedPut]) -> Result<Vec<OpName>, AllocError> {
+    puts.iter().map(|put| put.name).collect(alloc)
+}
+
+/// Whether this number of workers gives the puts of a history of two clients in this order.
+fn orders<R: Threads + Wait + Sync + AllocGlobal>(
+    rt: &R,
+    workers: u8,
+    entries: &[(u16, TestOp)],
+    wanted: &[OpName],
+) -> Result<bool, Fail> {
+    let history = history(rt.alloc(), 2, entries)?;
+    let ordered = judge_in_order_with(rt, rt.alloc(), &history, workers, &OpenGate);
+    drop(history);
+    let ordered = ordered?;
+    let names = names_of(rt.alloc(), ordered.puts.as_slice());
+    drop(ordered);
+    Ok(names?.as_slice() == wanted)
+}
+
+#[test]
+fn puts_in_order_of_versions(rt: HostRuntime) -> Result<(), Fail> {
+    let out_of_order = [
+        (0, TestOp::Put(b'x', 1, 3, 0)),
+        (1, TestOp::Put(b'y', 1, 1, 0)),
+        (0, TestOp::Got(b'y', 1, 1, 0)),
+        (1, TestOp::Put(b'x', 2, 2, 0)),
+    ];
+    for workers in [1, 2, 64] {
+        let wanted = [name(1, 0), name(1, 1), name(0, 0)];
+        assert!(rt; orders(&rt, workers, &out_of_order, &wanted)?);
+        let wanted = [name(0, 0), name(0, 1), name(0, 2)];
+        assert!(rt; orders(&rt, workers, &STALE, &wanted)?);
     }
     Ok(())
 }

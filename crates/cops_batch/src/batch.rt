@@ -2,6 +2,7 @@ ghost use Rattle.std.specs.Prelude.{◌≡◌, ◌<◌, ◌⊎◌, ◌↔◌, �
 ghost use Rattle.cops_types.specs.declared.op.OpName.{OpName};
 ghost use Rattle.cops_types.specs.Convergence.{IsCausallyConvergent};
 ghost use Rattle.cops_types.specs.declared.limits.TheConstants.{MAX_WORKERS};
+ghost use Rattle.cops_audit.specs.Ordered.{IsOrderedVerdict};
 ghost use Rattle.cops_audit.specs.Tables.{Repeats, Rises};
 ghost use Rattle.cops_audit.specs.Verdicts.{Accepts, ConvergesByVersions, IsVerdict};
 ghost use Rattle.cops_batch.specs.Found.{HasDoubled, HasNoEarlierFaults, HasStale, IsSearched};
@@ -12,7 +13,7 @@ ghost use Rattle.cops_batch.specs.declared.fault.BatchFault.TheVariants.{BadWork
 use crate::fault::BatchFault;
 use crate::joining::{finished, joined_before_stale, joined_names, joined_stale};
 use crate::pieces::{Piece, cut, leave, look_before_stale, look_for_doubled, look_for_stale};
-use cops_audit::{Puts, Tables, Verdict, verdict_on_convergence};
+use cops_audit::{OrderedVerdict, Puts, Tables, Verdict, verdict_on_convergence};
 use cops_types::{Gate, History, MAX_WORKERS};
 use std::alloc::Global;
 use std::sync::Wait;
@@ -37,23 +38,40 @@ pub fn judge_with<R: Threads + Wait + Sync, G: Gate>(
     ensures bad { IsErrOf result BadWorkers ↔ ((workers ≡ 0) ⊎ (MAX_WORKERS < workers)) }
     ensures held { IsErrOf result Held → (i : ℕ) × (i < workers) × MayHoldPiece (G.may_hold gate.now) i }
 {
+    let ordered = judge_in_order_with(rt, alloc, history, workers, gate)?;
+    verdict_on_convergence();
+    Ok(ordered.verdict)
+}
+
+/// The verdict that `judge_with` gives, and all puts in order of versions, in which reports look up the sources of gets.
+/// The errors are those of `judge_with`.
+pub fn judge_in_order_with<R: Threads + Wait + Sync, G: Gate>(
+    rt: &R,
+    alloc: Global,
+    history: &History,
+    workers: u8,
+    gate: &G,
+) -> Result<OrderedVerdict, BatchFault>
+    ensures ok { IfOk result (IsOrderedVerdict history.now.sessions) }
+    ensures bad { IsErrOf result BadWorkers ↔ ((workers ≡ 0) ⊎ (MAX_WORKERS < workers)) }
+    ensures held { IsErrOf result Held → (i : ℕ) × (i < workers) × MayHoldPiece (G.may_hold gate.now) i }
+{
     if workers == 0 || workers > MAX_WORKERS {
         return Err(BatchFault::BadWorkers);
     }
-    verdict_on_convergence();
     judge_in_pieces(rt, alloc, history, workers, gate)
 }
 
-/// The verdict by `workers` workers.
+/// The verdict by `workers` workers, with the puts in order of versions.
 fn judge_in_pieces<R: Threads + Wait + Sync, G: Gate>(
     rt: &R,
     alloc: Global,
     history: &History,
     workers: u8,
     gate: &G,
-) -> Result<Verdict, BatchFault>
+) -> Result<OrderedVerdict, BatchFault>
     requires { 0 < workers }
-    ensures ok { IfOk result (IsVerdict history.now.sessions) }
+    ensures ok { IfOk result (IsOrderedVerdict history.now.sessions) }
     ensures err { IfErr result (MayFail (G.may_hold gate.now) workers) }
 {
     let Ok(puts) = Puts::new(alloc, history) else {
@@ -63,7 +81,7 @@ fn judge_in_pieces<R: Threads + Wait + Sync, G: Gate>(
         return Err(BatchFault::Memory);
     };
     if !puts.is_rising() {
-        return judge_doubled(rt, alloc, &puts, gate, pieces.as_mut_slice());
+        return judge_doubled(rt, alloc, puts, gate, pieces.as_mut_slice());
     }
     judge_gets(rt, alloc, puts, gate, pieces.as_mut_slice())
 }
@@ -72,13 +90,13 @@ fn judge_in_pieces<R: Threads + Wait + Sync, G: Gate>(
 fn judge_doubled<R: Threads + Wait + Sync, G: Gate>(
     rt: &R,
     alloc: Global,
-    puts: &Puts,
+    puts: Puts,
     gate: &G,
     pieces: &mut [Piece],
-) -> Result<Verdict, BatchFault>
-    requires repeats { Repeats puts.now.table }
-    requires pieces { ArePieces puts.now.names pieces.old }
-    ensures ok { IfOk result (IsVerdict puts.now.sessions) }
+) -> Result<OrderedVerdict, BatchFault>
+    requires repeats { Repeats puts.table }
+    requires pieces { ArePieces puts.names pieces.old }
+    ensures ok { IfOk result (IsOrderedVerdict puts.entry.sessions) }
     ensures err { IfErr result (MayFail (G.may_hold gate.now) (length pieces.old)) }
 {
     let threads = pieces.len();
@@ -87,17 +105,18 @@ fn judge_doubled<R: Threads + Wait + Sync, G: Gate>(
         pieces,
         threads,
         &|_, piece: &mut Piece|
-            requires { LiesWithin (length puts.now.names) piece.now }
+            requires { LiesWithin (length puts.names) piece.now }
             ensures place { SamePlace piece.entry.now piece.exit.now }
             ensures held { IsStoppedByGate (G.may_hold gate.entry.now) piece.exit.now }
-            ensures found { piece.exit.now.state ≡ Fine → HasDoubled puts.entry.now piece.exit.now }
-        { look_for_doubled(rt, alloc, puts, gate, piece) },
+            ensures found { piece.exit.now.state ≡ Fine → HasDoubled puts.entry piece.exit.now }
+        { look_for_doubled(rt, alloc, &puts, gate, piece) },
     );
     finished(gate, pieces)?;
     let Ok(faults) = joined_names(alloc, pieces) else {
         return Err(BatchFault::Memory);
     };
-    Ok(puts.refused_doubled(faults))
+    let verdict = puts.refused_doubled(faults);
+    Ok(puts.with_verdict(verdict))
 }
 
 /// The verdict where no two puts have the same version. There are two rounds, because only after all pieces are
@@ -108,10 +127,10 @@ fn judge_gets<R: Threads + Wait + Sync, G: Gate>(
     puts: Puts,
     gate: &G,
     pieces: &mut [Piece],
-) -> Result<Verdict, BatchFault>
+) -> Result<OrderedVerdict, BatchFault>
     requires rising { Rises puts.table }
     requires pieces { ArePieces puts.names pieces.old }
-    ensures ok { IfOk result (IsVerdict puts.entry.sessions) }
+    ensures ok { IfOk result (IsOrderedVerdict puts.entry.sessions) }
     ensures err { IfErr result (MayFail (G.may_hold gate.now) (length pieces.old)) }
 {
     let threads = pieces.len();
@@ -131,7 +150,7 @@ fn judge_gets<R: Threads + Wait + Sync, G: Gate>(
         Ok(None) => judge_stale(rt, alloc, puts, gate, pieces),
         Ok(Some(verdict)) => {
             last_round(rt, gate, pieces)?;
-            Ok(verdict)
+            Ok(puts.with_verdict(verdict))
         }
         Err(fault) => {
             last_round(rt, gate, pieces)?;
@@ -173,12 +192,12 @@ fn judge_stale<R: Threads + Wait + Sync, G: Gate>(
     puts: Puts,
     gate: &G,
     pieces: &mut [Piece],
-) -> Result<Verdict, BatchFault>
+) -> Result<OrderedVerdict, BatchFault>
     requires rising { Rises puts.table }
     requires clean { HasNoEarlierFaults puts.sessions }
     requires pieces { ArePieces puts.names pieces.old }
     requires held { Each (IsStoppedByGate (G.may_hold gate.now)) pieces.old }
-    ensures ok { IfOk result (IsVerdict puts.entry.sessions) }
+    ensures ok { IfOk result (IsOrderedVerdict puts.entry.sessions) }
     ensures err { IfErr result (MayFail (G.may_hold gate.now) (length pieces.old)) }
 {
     let threads = pieces.len();

@@ -8,5 +8,5 @@ mod fault;
 mod joining;
 mod pieces;
 
-pub use batch::judge_with;
+pub use batch::{judge_in_order_with, judge_with};
 pub use fault::BatchFault;

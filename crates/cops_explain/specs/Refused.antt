@@ -1,6 +1,6 @@
 -- A refused history, with what its explanation is made of.
-use Rattle.cops_report.specs.Puts.{HasAllPuts}
 use Rattle.cops_audit.specs.declared.verdict.Verdict.TheVariants as verdict
+use Rattle.cops_audit.specs.Tables.{IsPutTable}
 use Rattle.cops_audit.specs.Verdicts.{IsVerdict}
 use Rattle.cops_explain.specs.declared.refused.Refused.{Refused}
 use Rattle.cops_explain.specs.Naming.{ANamedHistory, named_of}
@@ -11,7 +11,7 @@ history_of refused = named_of refused.named
 
 -- the puts are all of the history's, in order of versions
 abbrev pub HasItsPuts : Refused → Type 0
-HasItsPuts refused = HasAllPuts (history_of refused).sessions refused.puts.now
+HasItsPuts refused = IsPutTable (history_of refused).sessions refused.puts.now
 
 -- the faults are the history's
 abbrev pub HasItsFaults : Refused → Type 0

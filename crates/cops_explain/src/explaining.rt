@@ -12,8 +12,8 @@ use crate::limits::FIRST_FAULTS;
 use crate::naming::{NamedHistory, Naming};
 use crate::paragraphs::push_paragraph;
 use crate::refused::Refused;
-use cops_audit::{Faults, Verdict};
-use cops_report::{put_table, report};
+use cops_audit::{Faults, Verdict, puts_by_version};
+use cops_report::report;
 use cops_types::{Memory, Selection};
 use std::alloc::{AllocError, Global};
 use std::fmt::Write;
@@ -150,7 +150,7 @@ fn refusal(
     requires { IsVerdict named.history.now.sessions (Verdict.Refused faults.now) }
     ensures { IfOk result (λ text. IsExplained (named_of named.entry) (Verdict.Refused faults.now) asked text.items) }
 {
-    let puts = put_table(alloc, named.history)?;
+    let puts = puts_by_version(alloc, named.history)?;
     let refused = Refused {
         alloc,
         named,

@@ -9,10 +9,9 @@ ghost use Rattle.cops_explain_json.specs.Explanations.{AreAsked, IsExplainedJson
 
 use crate::faults::{faults_json, one_fault};
 use crate::object::{Object, line_of};
-use cops_audit::{Faults, Verdict};
+use cops_audit::{Faults, Verdict, puts_by_version};
 use cops_explain::{FIRST_FAULTS, NamedHistory, Naming, Refused};
 use cops_outcomes::OutcomeCounts;
-use cops_report::put_table;
 use cops_types::{History, Memory, Selection};
 use serde_json::{Value as Json, json};
 use std::alloc::{AllocError, Global};
@@ -148,7 +147,7 @@ fn verdict_json(
     match verdict {
         Verdict::Accepted(_) => Ok(accepted_json(alloc, named)?),
         Verdict::Refused(faults) => {
-            let puts = put_table(alloc, named.history)?;
+            let puts = puts_by_version(alloc, named.history)?;
             let refused = Refused {
                 alloc,
                 named: *named,

@@ -1,13 +1,13 @@
 ghost use Rattle.std.specs.Prelude.{◌↔◌, IfOk, IsTrue, MatchOption};
 ghost use Rattle.cops_types.specs.Histories.{IsNamed};
+ghost use Rattle.cops_audit.specs.Tables.{IsPutTable};
 ghost use Rattle.cops_report.specs.Chains.{HasNoChain, IsFirstChain};
 ghost use Rattle.cops_report.specs.Marks.{IsMarked};
-ghost use Rattle.cops_report.specs.Puts.{HasAllPuts};
 ghost use Rattle.cops_report.specs.Searches.{IsWalk, LeadsBack};
 
 use crate::marks::Marks;
-use crate::puts::put_table;
 use crate::search::search;
+use cops_audit::puts_by_version;
 use cops_types::{History, Memory, OpName, VersionedPut};
 use std::alloc::{AllocError, Global};
 
@@ -33,7 +33,7 @@ fn walk(alloc: Global, marks: &Marks, from: OpName, to: OpName) -> Result<Vec<Op
     Ok(names)
 }
 
-/// Like `chain`, with the puts of the history given.
+/// Like `chain`, with the puts of the history given, in order of versions.
 pub fn chain_by(
     alloc: Global,
     history: &History,
@@ -41,7 +41,7 @@ pub fn chain_by(
     from: OpName,
     to: OpName,
 ) -> Result<Option<Vec<OpName>>, Memory>
-    requires { HasAllPuts history.now.sessions puts.now }
+    requires { IsPutTable history.now.sessions puts.now }
     ensures { IfOk result (λ found. MatchOption found
         (HasNoChain history.now.sessions from to)
         (λ names. IsFirstChain history.now.sessions from to names.items)) }
@@ -74,6 +74,6 @@ pub fn chain(
         (HasNoChain history.now.sessions from to)
         (λ names. IsFirstChain history.now.sessions from to names.items)) }
 {
-    let puts = put_table(alloc, history)?;
+    let puts = puts_by_version(alloc, history)?;
     chain_by(alloc, history, &puts, from, to)
 }

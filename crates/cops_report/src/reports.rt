@@ -5,18 +5,19 @@ ghost use Rattle.cops_types.specs.Faults.{IsStale};
 ghost use Rattle.cops_types.specs.Counts.{count_of, put_count};
 ghost use Rattle.cops_types.specs.Histories.{Sessions};
 ghost use Rattle.cops_audit.specs.Judged.{IsJudged};
+ghost use Rattle.cops_audit.specs.Tables.{IsPutTable};
 ghost use Rattle.cops_audit.specs.Verdicts.{IsVerdict};
 ghost use Rattle.cops_audit.specs.declared.verdict.NotAbove.{NotAbove};
 ghost use Rattle.cops_audit.specs.declared.verdict.Stale.{Stale};
 ghost use Rattle.cops_audit.specs.declared.verdict.Verdict.{Verdict as AVerdict};
+ghost use Rattle.cops_report.specs.Puts.{FindsStale};
 ghost use Rattle.cops_report.specs.Reported.{IsReportOf};
 ghost use Rattle.cops_report.specs.Reports.{HasSomeVersion, IsRefusal, IsReport, IsStaleRefusal, accepted_line, named_line, not_above_line, refusal, refused_line};
 
 use crate::chains::chain_by;
 use crate::lines::{stale, version_at};
-use crate::puts::put_table;
-use cops_audit::{Faults, Judged, NotAbove, Stale, Verdict, judge};
-use cops_types::{History, Memory, OpName};
+use cops_audit::{Faults, Judged, NotAbove, Stale, Verdict, judge_in_order, puts_by_version};
+use cops_types::{History, Memory, OpName, VersionedPut};
 use std::alloc::{AllocError, Global};
 use std::fmt::Write;
 
@@ -84,31 +85,56 @@ fn refused_not_above(
     Ok(text)
 }
 
-/// The text of a refusal with a line for each stale get.
-fn refused_stale(alloc: Global, history: &History, faults: &[Stale]) -> Result<String, Memory>
-    requires { (f : Stale) → Contains faults.now f → IsStale history.now.sessions f.op f.newer }
+/// The text of a refusal with a line for each stale get. `puts` are the history's, in order of versions.
+fn refused_stale(
+    alloc: Global,
+    history: &History,
+    puts: &[VersionedPut],
+    faults: &[Stale],
+) -> Result<String, Memory>
+    requires puts { IsPutTable history.now.sessions puts.now }
+    requires faults { (f : Stale) → Contains faults.now f → IsStale history.now.sessions f.op f.newer }
     ensures { IfOk result (λ text. IsStaleRefusal history.now.sessions faults.now (string_bytes text)) }
 {
     let mut text = refused(alloc, history, faults.len())?;
-    let puts = put_table(alloc, history)?;
     for fault in faults {
-        let found = chain_by(alloc, history, &puts, fault.newer, fault.op)?;
+        let found = chain_by(alloc, history, puts, fault.newer, fault.op)?;
         let Some(names) = found else { unreachable!() };
         stale(&mut text, history, *fault, &names)?;
     }
     Ok(text)
 }
 
-/// The text of a refusal.
-fn refusal(alloc: Global, history: &History, faults: &Faults) -> Result<String, Memory>
-    requires { IsVerdict history.now.sessions (Verdict.Refused faults.now) }
+/// The text of a refusal, with the puts as in `report_by`.
+fn refusal(
+    alloc: Global,
+    history: &History,
+    puts: &[VersionedPut],
+    faults: &Faults,
+) -> Result<String, Memory>
+    requires verdict { IsVerdict history.now.sessions (Verdict.Refused faults.now) }
+    requires puts { FindsStale (Verdict.Refused faults.now) → IsPutTable history.now.sessions puts.now }
     ensures { IfOk result (λ text. IsRefusal history.now.sessions faults.now (string_bytes text)) }
 {
     match faults {
         Faults::Doubled(names) => Ok(refused_names(alloc, history, "doubled", names)?),
         Faults::NoSource(names) => Ok(refused_names(alloc, history, "no source", names)?),
         Faults::NotAbove(faults) => Ok(refused_not_above(alloc, history, faults)?),
-        Faults::Stale(faults) => refused_stale(alloc, history, faults),
+        Faults::Stale(faults) => refused_stale(alloc, history, puts, faults),
+    }
+}
+
+/// The puts in order of versions where the verdict is that gets are stale, for whose chains a report needs them.
+fn puts_for_chains(
+    alloc: Global,
+    history: &History,
+    verdict: &Verdict,
+) -> Result<Vec<VersionedPut>, AllocError>
+    ensures { IfOk result (λ puts. FindsStale verdict.now → IsPutTable history.now.sessions puts.items) }
+{
+    match verdict {
+        Verdict::Refused(Faults::Stale(_)) => puts_by_version(alloc, history),
+        _ => Ok(Vec::new(alloc)),
     }
 }
 
@@ -122,9 +148,24 @@ pub fn report(alloc: Global, history: &History, verdict: &Verdict) -> Result<Vec
     requires { IsVerdict history.now.sessions verdict.now }
     ensures { IfOk result (λ text. IsReport history.now.sessions verdict.now text.items) }
 {
+    let puts = puts_for_chains(alloc, history, verdict)?;
+    report_by(alloc, history, &puts, verdict)
+}
+
+/// Like `report`, with the puts of the history given, in order of versions; they are looked at where gets are stale.
+pub fn report_by(
+    alloc: Global,
+    history: &History,
+    puts: &[VersionedPut],
+    verdict: &Verdict,
+) -> Result<Vec<u8>, Memory>
+    requires verdict { IsVerdict history.now.sessions verdict.now }
+    requires puts { FindsStale verdict.now → IsPutTable history.now.sessions puts.now }
+    ensures { IfOk result (λ text. IsReport history.now.sessions verdict.now text.items) }
+{
     match verdict {
         Verdict::Accepted(_) => Ok(accepted(alloc, history)?.into_bytes()),
-        Verdict::Refused(faults) => Ok(refusal(alloc, history, faults)?.into_bytes()),
+        Verdict::Refused(faults) => Ok(refusal(alloc, history, puts, faults)?.into_bytes()),
     }
 }
 
@@ -132,8 +173,8 @@ pub fn report(alloc: Global, history: &History, verdict: &Verdict) -> Result<Vec
 pub fn report_of(alloc: Global, history: &History) -> Result<Vec<u8>, Memory>
     ensures { IfOk result (λ text. (verdict : AVerdict) × IsReportOf history.now.sessions verdict text.items) }
 {
-    let verdict = judge(alloc, history)?;
-    Ok(report(alloc, history, &verdict)?)
+    let ordered = judge_in_order(alloc, history)?;
+    Ok(report_by(alloc, history, &ordered.puts, &ordered.verdict)?)
 }
 
 /// The text of the verdict on a history of which only the sessions without their values are kept. It is the text of
@@ -141,5 +182,5 @@ pub fn report_of(alloc: Global, history: &History) -> Result<Vec<u8>, Memory>
 pub fn report_judged(alloc: Global, judged: &Judged) -> Result<Vec<u8>, Memory>
     ensures { (h : Sessions) → IsJudged h judged.now → IfOk result (λ text. IsReport h judged.now.verdict text.items) }
 {
-    report(alloc, judged.history(), judged.verdict())
+    report_by(alloc, judged.history(), judged.puts(), judged.verdict())
 }

@@ -6,7 +6,7 @@ ghost use Rattle.cops_types.specs.Histories.{Sessions, SessionStep, SourceStep, 
 ghost use Rattle.cops_types.specs.Past.{Step};
 ghost use Rattle.cops_types.specs.declared.op.OpName.{OpName};
 ghost use Rattle.cops_types.specs.declared.versioned_put.VersionedPut.{VersionedPut};
-ghost use Rattle.cops_report.specs.Puts.{HasPut, HasAllPuts};
+ghost use Rattle.cops_audit.specs.Tables.{IsPutTable};
 ghost use Rattle.cops_report.specs.Marks.{Gains, HasPlace, IsMarked, IsNearer, open_places, PlacesAll, SessionsMarked};
 ghost use Rattle.cops_report.specs.Searches.{HasReached, IsFound};
 
@@ -79,7 +79,7 @@ fn mark_sources(
     names: &mut Vec<OpName>,
     mark: Mark,
 ) -> Result<(), AllocError>
-    requires puts { HasAllPuts history.now.sessions puts.now }
+    requires puts { IsPutTable history.now.sessions puts.now }
     requires places { PlacesAll marks.old history.now.sessions }
     ensures gains { OnOk result
         (Gains history.now.sessions mark marks.old marks.new names.old.items names.new.items) }
@@ -117,7 +117,7 @@ fn mark_level(
     level: &Level,
 ) -> Result<Level, AllocError>
     requires fits { level.now.steps ≤ MAX_OPS }
-    requires puts { HasAllPuts history.now.sessions puts.now }
+    requires puts { IsPutTable history.now.sessions puts.now }
     requires begun { (to : OpName) × HasReached history.now.sessions to marks.old level.now }
     ensures next { IfOk result (λ next. (to : OpName) → HasReached history.now.sessions to marks.old level.now
         → HasReached history.now.sessions to marks.new next) }
@@ -145,7 +145,7 @@ pub fn search(
     from: OpName,
     to: OpName,
 ) -> Result<Marks, AllocError>
-    requires puts { HasAllPuts history.now.sessions puts.now }
+    requires puts { IsPutTable history.now.sessions puts.now }
     requires named { IsNamed history.now.sessions to }
     ensures { IfOk result (IsFound history.now.sessions from to) }
 {

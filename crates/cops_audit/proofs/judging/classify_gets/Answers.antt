@@ -4,7 +4,7 @@ use Rattle.cops_types.specs.declared.op.OpName.{OpName}
 use Rattle.cops_types.specs.Faults.{HasNoSource, IsNotAbove}
 use Rattle.cops_types.specs.Verdicts.{AllAbove, AllHaveSources}
 use Rattle.cops_audit.specs.Names.{ListsAmong}
-use Rattle.cops_audit.specs.Verdicts.{IsVerdict}
+use Rattle.cops_audit.specs.Ordered.{IsOrderedVerdict}
 use Rattle.cops_audit.specs.declared.verdict.NotAbove.{NotAbove}
 use Rattle.cops_audit.proofs.judging.classify_gets.Goals as goal
 
@@ -25,4 +25,4 @@ pub classify_stale-requires-clause-above : goal.classify_stale-requires-clause-a
 classify_stale-requires-clause-above c = subst AllAbove (sym c.in_ok-tables.ensures.sessions) c.in_default.ensures.above
 
 pub returns : goal.returns
-returns c = subst (λ h. IfOk c.classify_stale.result (IsVerdict h)) c.in_ok-tables.ensures.sessions c.classify_stale.ensures
+returns c = subst (λ h. IfOk c.classify_stale.result (IsOrderedVerdict h)) c.in_ok-tables.ensures.sessions c.classify_stale.ensures

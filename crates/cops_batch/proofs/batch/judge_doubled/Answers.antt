@@ -9,8 +9,8 @@ use Rattle.cops_batch.proofs.batch.judge_doubled.Goals as goal
 pub finished-requires-clause-pieces : goal.finished-requires-clause-pieces
 finished-requires-clause-pieces g c κs within = (_, pieces_same (search rules) c.requires.pieces)
 
-pub refused_doubled-requires-clause-faults : goal.refused_doubled-requires-clause-faults
-refused_doubled-requires-clause-faults g c =
-    let puts = c.args.puts.now in
+pub refused_doubled-verdict-requires-clause-faults : goal.refused_doubled-verdict-requires-clause-faults
+refused_doubled-verdict-requires-clause-faults g c =
+    let puts = c.args.puts in
     joined_all {A = OpName} (λ n. n) (IsDoubled puts.sessions) (λ (p : Piece). p.names.items) puts.names c.for_each_mut.new.s c.in-Ok.faults.items
     (pieces_same (search rules) c.requires.pieces) c.in_ok-finished.ensures.fine (search rules) c.in-Ok.ensures

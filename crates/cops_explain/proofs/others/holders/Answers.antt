@@ -1,4 +1,5 @@
 use Rattle.std.proofs.Common.{◌∙◌, false, true, refl, sym, arith, ◌≡◌}
+use Rattle.cops_audit.proofs.Places.{never_falls}
 use Rattle.cops_explain.specs.Refused.{history_of}
 use Rattle.cops_explain.proofs.OtherLemmas.{all_found, found_more, found_passed, further}
 use Rattle.cops_explain.proofs.others.holders.Goals as goal
@@ -29,12 +30,12 @@ returns-then-ne c =
     let puts = c.from_version-put-items.result.now in
     let v = c.version_at-version.result in
     all_found (history_of c.args.refused).sessions c.args.name v puts c.loop-put.put-index c.loop-put.names.items c.version_at-version.ensures c.loop-put.invariant
-    (λ n put. c.from_version-put-items.ensures.all n (c.requires.puts.all n v put))
-    (further puts v c.loop-put.put-index c.put-item.result c.from_version-put-items.ensures.rising c.from_version-put-items.ensures.low c.loop-put-test.true c.put-item.is (sym c.ne.ensures ∙ c.if-ne.true))
+    (λ n put. c.from_version-put-items.ensures.all n ((c.requires.puts.members (record { version = v; name = n })).1 put))
+    (further puts v c.loop-put.put-index c.put-item.result (never_falls puts c.from_version-put-items.ensures.rising) c.from_version-put-items.ensures.low c.loop-put-test.true c.put-item.is (sym c.ne.ensures ∙ c.if-ne.true))
 
 pub returns : goal.returns
 returns c =
     let puts = c.from_version-put-items.result.now in
     let v = c.version_at-version.result in
     all_found (history_of c.args.refused).sessions c.args.name v puts c.loop-put.put-index c.loop-put.names.items c.version_at-version.ensures c.loop-put.invariant
-    (λ n put. c.from_version-put-items.ensures.all n (c.requires.puts.all n v put)) (λ k d above lt. absurd (omega (arith, c.loop-put-test.false)))
+    (λ n put. c.from_version-put-items.ensures.all n ((c.requires.puts.members (record { version = v; name = n })).1 put)) (λ k d above lt. absurd (omega (arith, c.loop-put-test.false)))

@@ -2,6 +2,7 @@ use Rattle.std.proofs.Common.{◌≡◌, ◌≢◌, ◌∙◌, ◌≤◌, arith,
 use Rattle.std.proofs.lemmas.List.{get_or_default}
 use Rattle.cops_types.specs.Histories.{SourceStep}
 use Rattle.cops_types.specs.declared.versioned_put.VersionedPut.{VersionedPut}
+use Rattle.cops_audit.proofs.Places.{never_falls}
 use Rattle.cops_report.specs.Marks.{IsMarked}
 use Rattle.cops_report.proofs.GainLemmas.{gains_more, gains_none}
 use Rattle.cops_report.proofs.PutLemmas.{holders_all, holders_more}
@@ -48,7 +49,7 @@ returns-then-as_u64-clause-all c =
     (λ k d at lt e.
     let same : p.version ≡ (get_or holders i d).version = ap (λ (q : VersionedPut). q.version) (c.put-item.is ∙ get_or_default holders i p d c.loop-put-test.true) in
     let low : v ≤ (get_or holders i d).version = c.from_version-holders.ensures.low i d c.loop-put-test.true in
-    let up : (get_or holders i d).version ≤ (get_or holders k d).version = c.from_version-holders.ensures.rising i k d at lt in
+    let up : (get_or holders i d).version ≤ (get_or holders k d).version = never_falls holders c.from_version-holders.ensures.rising i k d at lt in
     other (omega arith))
 
 pub returns-clause-all : goal.returns-clause-all
