@@ -1,5 +1,5 @@
 -- What was seen of operations, as far as it matters for some puts of unknown outcome, and what is left of it after some outcomes.
-use Rattle.std.specs.Prelude.{◌≡◌, ◌≢◌, ℕ, List, Option, [], drop, map, nat_eq, IsTrue}
+use Rattle.std.specs.Prelude.{◌≡◌, ◌≢◌, ℕ, List, [], drop, map, nat_eq, IsTrue}
 use Rattle.std.specs.List.{count_by, list_any}
 use Rattle.cops_types.specs.Histories.{Operation, missed, read, write}
 use Rattle.cops_outcomes.specs.Outcomes.{free_versions, put_versions, returned_versions, same_write}

@@ -6,7 +6,6 @@ use Rattle.std.proofs.lemmas.List.{take_at, drop_at, take-append-le, length-appe
 use Rattle.cops_types.specs.declared.format.Format.{Format}
 use Rattle.cops_types.specs.Format.{longest_body}
 use Rattle.cops_wire.specs.declared.fault.WireFault.{WireFault}
-use Rattle.cops_wire.specs.declared.fault.WireFault.TheVariants.{Short}
 use Rattle.cops_wire.specs.declared.message.Message.{Message}
 use Rattle.cops_wire.specs.Field.{u32, encoded_number}
 use Rattle.cops_wire.specs.Answer.{IsBytes, length_at, IsShort, BeginsWithKnown, IsAnswer, IsFromFields}
