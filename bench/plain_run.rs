@@ -1,7 +1,7 @@
-//! A plain cluster on threads, with no proof of anything, which `scripts.py` times beside `cops run`. It does the
+//! A plain cluster on threads, with no proof of anything, which `scripts.py` compares with `cops run`. It does the
 //! same work: a lock for each data centre's node, a thread for each client, sender and receiver, bounded queues of
 //! frames between data centres, an entry for each step in the node's book and with whose step it is. In the end all
-//! entries are followed by their tickets through nodes of its own, and compared with what the callers were told.
+//! entries are followed by their tickets through nodes of its own, and compared with what the callers were answered.
 //!
 //! usage: plain_run FILE DATA_CENTRES     a line of FILE is `CLIENT DATA_CENTRE KEY VALUE` for a put and `CLIENT
 //! DATA_CENTRE KEY` for a get

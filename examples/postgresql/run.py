@@ -39,7 +39,7 @@ def programs():
 
 
 def as_nobody(words):
-    """The words of a command as another user, if this one is root, as whom the server does not run."""
+    """The words of a command as another user, if this one is root: the server does not run as root."""
     return words if os.geteuid() else ["setpriv", f"--reuid={NOBODY}", f"--regid={NOBODY}", "--clear-groups", *words]
 
 

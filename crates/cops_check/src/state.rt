@@ -22,7 +22,7 @@ use std::alloc::{AllocError, Global};
 pub enum State {
     /// It is causally convergent.
     Clean,
-    /// So many of its gets have no put of their version yet, and further lines can make it causally convergent.
+    /// This number of its gets have no put of their version yet, and further lines can make it causally convergent.
     Waiting(usize),
     /// No further line can make it causally convergent. The text explains the first fault.
     Refused(Vec<u8>),
