@@ -1,7 +1,7 @@
 //! What makes a search faster changes no history, no place and no verdict: each is compared with the plain search.
 
 use crate::building::*;
-use cops_audit::{Buckets, Verdict, judge, place_near, place_of, puts_by_version};
+use cops_audit::{Buckets, Verdict, first_from, judge, place_near, place_of, puts_by_version};
 use cops_types::{History, TypeFault, Version};
 use std::alloc::Global;
 use std::test::Fail;
@@ -172,5 +172,22 @@ fn faster_searches_find_the_same_places(rt: HostRuntime) -> Result<(), Fail> {
     let agree = places_agree(rt.alloc(), &history);
     drop(history);
     assert!(rt; agree?);
+    Ok(())
+}
+
+/// The first places of puts with the versions 2.0 and 4.0 or later ones.
+fn first_places(alloc: Global, history: &History) -> Result<(usize, usize), Fail> {
+    let second = Version::new(2, 0)?;
+    let fourth = Version::new(4, 0)?;
+    let puts = puts_by_version(alloc, history)?;
+    Ok((first_from(&puts, second), first_from(&puts, fourth)))
+}
+
+#[test]
+fn first_places_of_versions(rt: HostRuntime) -> Result<(), Fail> {
+    let history = history(rt.alloc(), 2, &STALE)?;
+    let places = first_places(rt.alloc(), &history);
+    drop(history);
+    assert!(rt; places? == (1, 3));
     Ok(())
 }

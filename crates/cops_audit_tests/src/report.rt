@@ -63,6 +63,31 @@ fn reports(rt: HostRuntime) -> Result<(), Fail> {
     Ok(())
 }
 
+/// Whether the last of three puts in order of versions has this name, and the report by the puts is this text.
+fn reports_by_puts(
+    alloc: Global,
+    entries: &[(u16, TestOp)],
+    last: OpName,
+    text: &str,
+) -> Result<bool, Fail> {
+    let fed = fed(alloc, entries)?;
+    let is_last = match fed.puts().get(2) {
+        Some(put) => put.name == last,
+        None => false,
+    };
+    let reported = report_by(alloc, fed.history(), fed.puts(), fed.verdict());
+    drop(fed);
+    Ok(reported?.as_slice() == text.as_bytes() && is_last)
+}
+
+#[test]
+fn reports_by_the_order_of_puts(rt: HostRuntime) -> Result<(), Fail> {
+    let refused =
+        "refused: 5 operations, 3 puts, 1 faults\nstale (1,1) returned 1.0, newer (0,1) at 2.0, chain (0,1) (0,2) (1,0) (1,1)\n";
+    assert!(rt; reports_by_puts(rt.alloc(), &STALE, name(0, 2), refused)?);
+    Ok(())
+}
+
 /// A deletion is counted and named as a put, and the chain leads through it.
 #[test]
 fn reports_of_deletions(rt: HostRuntime) -> Result<(), Fail> {
